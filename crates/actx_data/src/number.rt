@@ -1,7 +1,7 @@
 //! The exact arithmetic of whole numbers from -(2^53 - 1) to 2^53 - 1 (ECMA-262, 6.1.6.1, restricted).
 
 ghost use Rattle.std.specs.Prelude.{◌≡◌, IfOk};
-ghost use Rattle.actx_data.specs.Number.{IsWhole, sum_of, difference_of, product_of};
+ghost use Rattle.actx_data.specs.Number.{IsWhole, in_profile, sum_of, difference_of, product_of};
 
 use super::{NoMemory, Units};
 use std::alloc::Global;
@@ -18,6 +18,8 @@ pub fn add(a: i64, b: i64) -> Option<i64>
     in_range(a + b)
 }
 
-fn in_range(n: i64) -> Option<i64> {
+fn in_range(n: i64) -> Option<i64>
+    ensures { result ≡ in_profile n }
+{
     if -GREATEST <= n && n <= GREATEST { Some(n) } else { None }
 }
