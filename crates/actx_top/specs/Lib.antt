@@ -1,0 +1,5 @@
+pub mod Operators
+pub mod Machine
+pub mod Low
+pub mod Meaning
+pub mod Headline

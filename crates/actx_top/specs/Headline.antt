@@ -1,0 +1,28 @@
+-- THE HEADLINE
+-- For every accepted program and every list of host events, the emitted text parses as the plain subset, and the two
+-- runs match in both directions: for every bound on the steps of the one there is a bound of the other with the same
+-- trace (the lines printed) and the same end (going, ended, threw or left the profile).
+use Rattle.std.specs.Prelude.{ℕ, List}
+use Rattle.actx_parse.specs.Accepts.{Accepts, ReadsPlain}
+use Rattle.actx_parse.specs.Layout.{layout}
+use Rattle.actx_parse.specs.Spell.{spell_program}
+use Rattle.actx_parse.specs.Tree.{Stmts}
+use Rattle.actx_top.specs.Low.{low, OwnPart}
+use Rattle.actx_top.specs.Meaning.{Same}
+
+-- the text that is emitted for a program
+abbrev pub emitted : Stmts → List ℕ
+emitted p = layout (spell_program (low p))
+
+-- what is promised of a program p, whose emitted program is q
+pub record Matches (p q : Stmts) : Type 0 where
+  -- the emitted text parses to q
+  pub reads : ReadsPlain (emitted p) q
+  -- the run of p and the run of q match in both directions, for every list of host events
+  pub same : Same p q
+  -- q is the prelude, and then the statements of p with their names renamed
+  pub own : OwnPart p q
+
+-- every text that is a program has its emitted program
+abbrev pub Headline : Type 0
+Headline = (text : List ℕ) (p : Stmts) → Accepts text p → Matches p (low p)
