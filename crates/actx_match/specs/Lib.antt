@@ -1,0 +1,5 @@
+pub mod Runs
+pub mod Matching
+pub mod Credit
+pub mod Traced
+pub mod Pairing

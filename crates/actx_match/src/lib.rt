@@ -1,13 +1,9 @@
-// A library with one function.
+//! The theory of machines that match: a simulation of one machine by another shows that both show the same, in both
+//! directions. A machine that counts by ones to 10 and one that counts by halves and shows whole numbers match, for one.
 #![tactic(auto)]
 
-ghost use Rattle.std.specs.Prelude.{◌≡◌};
-ghost use Rattle.actx_match.specs.Echo.{echo_of};
+mod bounded;
+mod simulation;
 
-// The `ensures` clause is the contract: what `echo` returns is `echo_of` of its argument, a definition
-// in `specs/Echo.antt`, which a caller's clause can cite too.
-pub fn echo(x: usize) -> usize
-    ensures { result ≡ echo_of x }
-{
-    x
-}
+pub use bounded::{BoundedSimulation, bounded_match};
+pub use simulation::{Simulation, related_match};
