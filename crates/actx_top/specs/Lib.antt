@@ -1,5 +1,9 @@
+pub mod Sound
 pub mod Operators
 pub mod Machine
+pub mod Cells
+pub mod Scope
 pub mod Low
 pub mod Meaning
 pub mod Headline
+pub mod View

@@ -1,5 +1,6 @@
 -- What operators and printing make of values (ECMA-262, 13.8.1, 13.15.3, 7.1.17, restricted to the profile).
-use Rattle.std.specs.Prelude.{ℕ, ℤ, ◌+◌, Bool, true, false, ◌==◌, ◌||◌, nat_le, List, [], ◌∷◌, ◌++◌, length, Option, Some, None, codes, if◌then◌else◌}
+use Rattle.std.specs.Prelude.{ℕ, ℤ, ◌+◌, Bool, true, false, ◌==◌, ◌||◌, nat_le, List, [], ◌∷◌, ◌++◌, length, Option, Some, None, codes, flat_map, if◌then◌else◌}
+use Rattle.std.specs.List.{list_any}
 use Rattle.std.specs.Fmt.{signed_decimal}
 use Rattle.actx_data.specs.Number.{sum_of, difference_of, product_of}
 use Rattle.actx_data.specs.Units.{joined}
@@ -73,18 +74,20 @@ text_or_object None = codes "[object]"
 abbrev pub printed : Value → List ℕ
 printed v = text_or_object (primitive_text v)
 
+-- a value's text behind a space
+abbrev pub spaced : Value → List ℕ
+spaced v = 32 ∷ printed v
+
 -- the texts of values with a space before each
 abbrev pub printed_more : List Value → List ℕ
-printed_more [] = []
-printed_more (v ∷ vs) = 32 ∷ (printed v ++ printed_more vs)
+printed_more vs = flat_map spaced vs
 
 abbrev pub line_of : List Value → List ℕ
 line_of [] = []
 line_of (v ∷ vs) = printed v ++ printed_more vs
 
 abbrev pub has_percent : List ℕ → Bool
-has_percent [] = false
-has_percent (c ∷ cs) = (c == 37) || has_percent cs
+has_percent cs = list_any (λ c. c == 37) cs
 
 -- a first text with % is a format where more values stand after it
 abbrev pub is_format : List Value → Bool

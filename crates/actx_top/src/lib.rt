@@ -1,5 +1,7 @@
 //! The top call and what it stands on: the step table, the emitted program and both runs.
 #![tactic(auto)]
 
-ghost use Rattle.std.specs.Prelude.{◌≡◌};
-ghost use Rattle.actx_top.specs.Machine.{row};
+mod line;
+mod operators;
+mod scope;
+mod sound;
