@@ -3,3 +3,4 @@ pub mod Machine
 pub mod Low
 pub mod Meaning
 pub mod Headline
+pub mod Related
