@@ -3,3 +3,7 @@
 
 ghost use Rattle.std.specs.Prelude.{◌≡◌};
 ghost use Rattle.actx_top.specs.Machine.{row};
+
+mod laws;
+
+pub use laws::source_and_target_match;

@@ -1,7 +1,6 @@
 -- The relations hold on where things and scopes are added.
-use Rattle.std.proofs.Common.{◌≡◌, ℕ, List, [], ◌∷◌, ◌++◌, length, Option, Some}
-use Rattle.std.specs.Prelude.{slice_get}
-use Rattle.actx_match.specs.Pairing.{Paired, Extends}
+use Rattle.std.proofs.Common.{ℕ, List, [], ◌∷◌, ◌++◌, length, Option}
+use Rattle.actx_match.specs.Pairing.{Extends}
 use Rattle.actx_match.proofs.Pairing.{extends_same, extends_more, extends_on, paired_weaker, paired_more, paired_place}
 use Rattle.actx_data.specs.declared.value.Value.{Value}
 use Rattle.actx_data.specs.declared.value.Value.TheVariants as v
