@@ -7,3 +7,4 @@ pub mod Low
 pub mod Meaning
 pub mod Headline
 pub mod View
+pub mod Related

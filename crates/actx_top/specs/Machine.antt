@@ -277,13 +277,17 @@ row side (Done c) fs s = done c fs s
 abbrev pub at : Task → List Frame → Store → List TraceEvent → State
 at task fs s tr = record { now = Doing task; frames = fs; store = s; trace = tr }
 
-abbrev pub takes : Move → List Frame → Store → List TraceEvent → State
-takes (Goes task fs s) gs r tr = at task fs s tr
-takes (Writes e task fs s) gs r tr = at task fs s (tr ++ e ∷ [])
-takes (Stops e) gs r tr = record { now = Over e; frames = gs; store = r; trace = tr }
+-- a run that is over keeps its end and its trace alone
+abbrev pub stopped : End → List TraceEvent → State
+stopped e tr = record { now = Over e; frames = []; store = record { scope = []; scopes = []; heap = []; shown = []; events = [] }; trace = tr }
+
+abbrev pub takes : Move → List TraceEvent → State
+takes (Goes task fs s) tr = at task fs s tr
+takes (Writes e task fs s) tr = at task fs s (tr ++ e ∷ [])
+takes (Stops e) tr = stopped e tr
 
 abbrev pub step_at : Side → Now → List Frame → Store → List TraceEvent → State
-step_at side (Doing task) fs s tr = takes (row side task fs s) fs s tr
+step_at side (Doing task) fs s tr = takes (row side task fs s) tr
 step_at side (Over e) fs s tr = record { now = Over e; frames = fs; store = s; trace = tr }
 
 -- one step; a run that is over stays as it is

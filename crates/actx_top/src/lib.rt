@@ -1,7 +1,10 @@
 //! The top call and what it stands on: the step table, the emitted program and both runs.
 #![tactic(auto)]
 
+mod laws;
 mod line;
 mod operators;
 mod scope;
 mod sound;
+
+pub use laws::source_and_target_match;
