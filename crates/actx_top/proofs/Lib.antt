@@ -1,3 +1,5 @@
 pub mod Outcomes
 pub mod Cells
 pub mod Same
+pub mod Declared
+pub mod Running

@@ -7,4 +7,5 @@ pub mod Low
 pub mod Meaning
 pub mod Headline
 pub mod View
+pub mod MachineView
 pub mod Related
