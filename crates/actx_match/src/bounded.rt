@@ -51,3 +51,6 @@ pub fn bounded_match<M: BoundedSimulation>()
     ensures shows { (s : M.Source) (t : M.Target) → M.related 0 s t → Match (λ n. M.see (run M.source_step n s)) (λ m. M.look (run M.target_step m t)) }
     ensures within { (s : M.Source) (t : M.Target) → M.related 0 s t → WithinFactor M.factor (λ n. M.see (run M.source_step n s)) (λ m. M.look (run M.target_step m t)) (λ n. cost M.source_step M.weight n s) (λ m. cost M.target_step M.price m t) }
 {}
+
+#[cfg(test)]
+mod tests;

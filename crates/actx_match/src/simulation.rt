@@ -42,3 +42,6 @@ pub trait Simulation {
 pub fn related_match<M: Simulation>()
     ensures { (s : M.Source) (t : M.Target) → M.related s t → Match (λ n. M.see (run M.source_step n s)) (λ m. M.look (run M.target_step m t)) }
 {}
+
+#[cfg(test)]
+mod tests;
