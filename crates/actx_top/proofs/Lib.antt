@@ -3,3 +3,5 @@ pub mod Cells
 pub mod Same
 pub mod Declared
 pub mod Running
+pub mod Lowered
+pub mod Emitted

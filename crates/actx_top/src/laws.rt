@@ -1,5 +1,9 @@
 //! The laws of the two runs, which every program's run and its emitted program's run obey.
 
+ghost use Rattle.std.specs.Prelude.{List};
+ghost use Rattle.actx_parse.specs.declared.token.TokenKind.{TokenKind};
+ghost use Rattle.actx_parse.specs.declared.side.Side.TheVariants.{Source, Plain};
+ghost use Rattle.actx_parse.specs.Grammar.{SpellsProgram};
 ghost use Rattle.actx_parse.specs.Tree.{Stmts};
 ghost use Rattle.actx_top.specs.Low.{low};
 ghost use Rattle.actx_top.specs.Meaning.{Same};
@@ -7,4 +11,9 @@ ghost use Rattle.actx_top.specs.Meaning.{Same};
 /// The run of a program and the run of its emitted program match in both directions, for every list of host events.
 pub fn source_and_target_match()
     ensures { (p : Stmts) → Same p (low p) }
+{}
+
+/// Some tokens of the plain side spell the emitted program.
+pub fn emitted_is_spelled()
+    ensures { (p : Stmts) (x : List TokenKind) → SpellsProgram Source 200 p x → (y : List TokenKind) × SpellsProgram Plain 32768 (low p) y }
 {}

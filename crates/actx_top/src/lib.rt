@@ -3,6 +3,7 @@
 
 mod laws;
 mod line;
+mod lower;
 mod machine;
 mod operators;
 mod scope;
