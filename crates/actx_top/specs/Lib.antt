@@ -6,6 +6,8 @@ pub mod Scope
 pub mod Low
 pub mod Meaning
 pub mod Headline
+pub mod Answers
+pub mod FaultView
 pub mod View
 pub mod MachineView
 pub mod Related

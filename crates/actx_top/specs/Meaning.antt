@@ -1,5 +1,5 @@
 -- What a program shows when it is run: its trace and where it stands, after each number of steps.
-use Rattle.std.specs.Prelude.{ℕ, ◌<◌, ◌^◌, List, [], ◌∷◌, ◌++◌, All}
+use Rattle.std.specs.Prelude.{ℕ, ◌<◌, ◌^◌, List, [], ◌∷◌, ◌++◌, All, flat_map}
 use Rattle.std.specs.Char.Utf16.{utf16_lossy_chars}
 use Rattle.std.specs.Str.{encode_utf8_all}
 use Rattle.actx_match.specs.Runs.{run}
@@ -40,8 +40,11 @@ Same p q = (events : List Event) → AreEvents events → Match (source_shows p 
 abbrev pub line_bytes : List ℕ → List ℕ
 line_bytes u = encode_utf8_all (utf16_lossy_chars u) ++ 10 ∷ []
 
+-- what an event prints
+abbrev pub event_bytes : TraceEvent → List ℕ
+event_bytes (Out u) = line_bytes u
+event_bytes _ = []
+
 -- the lines that a trace has printed
 abbrev pub lines_of : List TraceEvent → List ℕ
-lines_of [] = []
-lines_of (Out u ∷ es) = line_bytes u ++ lines_of es
-lines_of (_ ∷ es) = lines_of es
+lines_of events = flat_map event_bytes events
