@@ -1,0 +1,4 @@
+pub mod LexKinds
+pub mod LexOnce
+pub mod LexRuns
+pub mod LexNumbers
