@@ -1,9 +1,8 @@
 -- A token's characters determine its kind, and a text begins with one token at most.
-use Rattle.std.proofs.Common.{◌≡◌, ◌≢◌, ◌⊎◌, inl, inr, ℕ, suc, ◌+◌, ◌-◌, ◌<◌, ◌≤◌, Bool, true, false, cond, List, [], ◌∷◌, ◌++◌, Option, Some, None, All, Contains, length, get_or, take, drop, refl, sym, ◌∙◌, ap, subst, arith, IsTrue, eqb, bytes_eq, lit<}
+use Rattle.std.proofs.Common.{◌≡◌, ◌≢◌, ℕ, ◌<◌, ◌≤◌, false, cond, List, [], ◌∷◌, ◌++◌, Option, Some, None, Contains, length, get_or, drop, refl, sym, ◌∙◌, ap, arith, IsTrue, eqb, bytes_eq, lit<}
 use Rattle.std.specs.Str.Parse.{digits_value}
-use Rattle.std.specs.List.{AllByRecursion}
-use Rattle.std.proofs.lemmas.Bool.{cond-true, cond-false, cases_order, eq-eqb, cases_Bool}
-use Rattle.std.proofs.lemmas.List.{append_cancel_right, take-append-drop}
+use Rattle.std.proofs.lemmas.Bool.{cond-true, cond-false}
+use Rattle.std.proofs.lemmas.List.{append_cancel_right}
 use Rattle.std.proofs.lemmas.List.Elements.{All-from_recursion, All-contains}
 use Rattle.actx_parse.specs.declared.token.Keyword.{Keyword}
 use Rattle.actx_parse.specs.declared.token.Keyword.TheVariants as k
@@ -11,8 +10,7 @@ use Rattle.actx_parse.specs.declared.token.Sign.{Sign}
 use Rattle.actx_parse.specs.declared.token.Sign.TheVariants as s
 use Rattle.actx_parse.specs.declared.token.TokenKind.{TokenKind}
 use Rattle.actx_parse.specs.declared.token.TokenKind.TheVariants as t
-use Rattle.actx_parse.specs.Lexical.{is_blank, is_digit, is_name_start, is_name_part, is_text_char, AllPass, keyword_text, sign_text, refused_signs, greatest_number, IsDecimal, just_zero, digits_on, IsName, IsToken, name_token, keyword_token, number_token, text_token, sign_token, IsLexeme, IsLongest}
-use Rattle.actx_parse.specs.Lexeme.{Begins}
+use Rattle.actx_parse.specs.Lexical.{is_blank, is_digit, is_name_start, is_text_char, AllPass, keyword_text, sign_text, refused_signs, greatest_number, IsDecimal, just_zero, digits_on, IsName, IsToken, name_token, keyword_token, number_token, text_token, sign_token}
 
 -- what a token's first character may be
 pub data Class : Type 0 where
@@ -106,7 +104,7 @@ keyword_class k.While = refl
 keyword_class k.With = refl
 keyword_class k.Yield = refl
 
-sign_class : (s : Sign) → class_of (get_or (sign_text s) 0 0) ≡ mark
+pub sign_class : (s : Sign) → class_of (get_or (sign_text s) 0 0) ≡ mark
 sign_class s.OpenBrace = refl
 sign_class s.CloseBrace = refl
 sign_class s.OpenParen = refl
@@ -158,7 +156,7 @@ some_first : (w : List ℕ) → class_of (get_or w 0 0) ≢ mark → 0 < length 
 some_first [] h = absurd (h refl)
 some_first (c ∷ cs) h = omega arith
 
-sign_some : (s : Sign) → 0 < length (sign_text s)
+pub sign_some : (s : Sign) → 0 < length (sign_text s)
 sign_some s.OpenBrace = lit< tt
 sign_some s.CloseBrace = lit< tt
 sign_some s.OpenParen = lit< tt

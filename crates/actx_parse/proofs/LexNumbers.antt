@@ -1,16 +1,18 @@
 -- Numbers and texts: what the code reads is the one token that begins there, and what it refuses begins none.
-use Rattle.std.proofs.Common.{◌≡◌, ◌≢◌, ◌⊎◌, inl, inr, ℕ, suc, ◌+◌, ◌-◌, ◌*◌, ◌<◌, ◌≤◌, Bool, true, false, List, [], ◌∷◌, ◌++◌, Option, Some, None, MatchOption, length, get_or, take, drop, refl, sym, ◌∙◌, ap, subst, arith, IsTrue, All, Contains, add-one, cond, eqb}
+use Rattle.std.proofs.Common.{◌≡◌, inl, inr, ℕ, suc, ◌+◌, ◌-◌, ◌<◌, ◌≤◌, true, false, List, [], ◌∷◌, ◌++◌, Some, None, length, get_or, take, drop, refl, sym, ◌∙◌, ap, subst, arith, IsTrue, leb}
 use Rattle.std.specs.Str.Parse.{digits_value}
 use Rattle.std.specs.List.{prefix_len}
-use Rattle.std.proofs.lemmas.Bool.{false≢true, both_ways, cases_eq, eqb-true, or_parts}
-use Rattle.std.proofs.lemmas.List.{take-append-drop, append_assoc, length-take, length-drop, length-append, get_or-take, get_or-drop, get_or_at, take_more, drop_more, drop_at, take_at}
+use Rattle.std.proofs.lemmas.Bool.{false≢true, cases_eq, cond-true, cond-false, cases_Bool, lt-leb, le-leb, leb-true}
+use Rattle.std.proofs.lemmas.Str.Parse.{digits_value-take-le}
+use Rattle.std.specs.Char.{digit_value}
+use Rattle.std.proofs.lemmas.List.{take-append-drop, append_assoc, length-take, length-drop, length-append, get_or-take, get_or-drop, get_or_at, take_more}
 use Rattle.std.proofs.lemmas.List.Elements.{All-cons, All-tail, All-head, All-nil}
-use Rattle.std.proofs.lemmas.List.Sums.{prefix_len-le-length, prefix_len_passes, prefix_len_stops, prefix_len_is}
+use Rattle.std.proofs.lemmas.List.Sums.{prefix_len_is}
 use Rattle.actx_parse.specs.declared.token.TokenKind.{TokenKind}
 use Rattle.actx_parse.specs.declared.token.TokenKind.TheVariants as t
-use Rattle.actx_parse.specs.Lexical.{is_digit, is_name_start, is_name_part, is_text_char, AllPass, greatest_number, IsDecimal, just_zero, digits_on, IsToken, number_token, text_token, IsLexeme, IsLongest, begins_free, MayFollow}
-use Rattle.actx_parse.specs.Lexeme.{Begins}
-use Rattle.actx_parse.proofs.LexKinds.{Class, word, digit, quote, blank, mark, class_of, kind_class, token_class, digit_class, refused_class, Reading, r_name, r_keyword, r_number, r_text, r_sign, reading}
+use Rattle.actx_parse.specs.Lexical.{is_digit, is_text_char, AllPass, greatest_number, IsDecimal, just_zero, digits_on, IsToken, number_token, text_token, IsLexeme, IsLongest, begins_free, MayFollow}
+use Rattle.actx_parse.specs.Lexeme.{Begins, number_of}
+use Rattle.actx_parse.proofs.LexKinds.{digit, quote, class_of, kind_class, token_class, digit_class, refused_class, Reading, r_name, r_keyword, r_number, r_text, r_sign, reading}
 use Rattle.actx_parse.proofs.LexOnce.{begins_some, begins_class}
 use Rattle.actx_parse.proofs.LexRuns.{run_passes, run_some, longest_run}
 
@@ -23,12 +25,12 @@ pub decimal_from : (w : List ℕ) → 0 < length w → AllPass is_digit w → (g
 decimal_from [] pos h z = absurd (omega arith)
 decimal_from (c ∷ []) pos h z =
     elim (cases_eq c 48) [
-        inl e ↦ subst (λ d. IsDecimal (d ∷ [])) (sym e) just_zero
+      | inl e ↦ subst (λ d. IsDecimal (d ∷ [])) (sym e) just_zero
       | inr n ↦ digits_on (All-head (λ d. IsTrue (is_digit d)) c [] h) n (All-tail (λ d. IsTrue (is_digit d)) c [] h)
     ]
 decimal_from (c ∷ d ∷ cs) pos h z =
     elim (cases_eq c 48) [
-        inl e ↦ absurd (let l = z e in omega arith)
+      | inl e ↦ absurd (let l = z e in omega arith)
       | inr n ↦ digits_on (All-head (λ d. IsTrue (is_digit d)) c (d ∷ cs) h) n (All-tail (λ d. IsTrue (is_digit d)) c (d ∷ cs) h)
     ]
 
@@ -56,7 +58,7 @@ number_begins text n start e fits zero free small =
       fits = fits;
       token = number_token (decimal_from (take n text) (omega arith) (run_passes is_digit text n e fits) (λ z. let l = zero (sym head ∙ z) in omega arith)) small;
       longest = longest_run is_digit text n digit e fits pos (digit_class (get_or text 0 0) start) number_lexeme;
-      follows = free
+      follows = free;
     }
 
 free_stops : (rest : List ℕ) → IsTrue (begins_free rest) → 0 < length rest → is_digit (get_or rest 0 0) ≡ false
@@ -84,12 +86,35 @@ number_run text k m start b =
     let free : IsTrue (begins_free (drop m text)) = subst (λ j. MayFollow j (drop m text)) r.0 b.follows in
     record {
       run = sym (prefix_len_is is_digit text m 0 b.fits
-        (λ i lt. subst (λ v. IsTrue (is_digit v)) (get_or-take m text i 0 lt) (all i 0 (omega arith)))
-        (λ lt. subst (λ v. is_digit v ≡ false) (get_or-drop m text 0 0 ∙ ap (λ i. get_or text i 0) (omega arith)) (free_stops (drop m text) free (omega (arith, length-drop m text)))));
+          (λ i lt. subst (λ v. IsTrue (is_digit v)) (get_or-take m text i 0 lt) (all i 0 (omega arith)))
+          (λ lt. subst (λ v. is_digit v ≡ false) (get_or-drop m text 0 0 ∙ ap (λ i. get_or text i 0) (omega arith)) (free_stops (drop m text) free (omega (arith, length-drop m text)))));
       zero = λ z. let l = zero_alone (take m text) r.1 (head ∙ z) in omega arith;
       free = free;
-      small = r.2
+      small = r.2;
     }
+
+-- THE NUMBER OF DIGITS
+pub digit_worth : (c : ℕ) → IsTrue (is_digit c) → digit_value c ≡ c - 48
+digit_worth c h = grind arith
+
+pub too_great : (ds : List ℕ) (i : ℕ) → greatest_number < digits_value 10 (take (i + 1) ds) → None ≡ number_of ds
+too_great ds i h =
+    let le = digits_value-take-le 10 ds (i + 1) (omega arith) in
+    sym (cond-false (leb (digits_value 10 ds) greatest_number) (Some (digits_value 10 ds)) None (lt-leb (digits_value 10 ds) greatest_number (omega arith)))
+
+pub number_refused : (w : List ℕ) → number_of w ≡ None → digits_value 10 w ≤ greatest_number → ⊥
+number_refused w e h = let f : number_of w ≡ Some (digits_value 10 w) = cond-true (leb (digits_value 10 w) greatest_number) (Some (digits_value 10 w)) None (le-leb (digits_value 10 w) greatest_number h) in cc
+
+pub number_found : (w : List ℕ) (v : ℕ) → number_of w ≡ Some v → (v ≡ digits_value 10 w) × (digits_value 10 w ≤ greatest_number)
+number_found w v e =
+    elim (cases_Bool (leb (digits_value 10 w) greatest_number)) [
+      | inl h ↦
+          let f : number_of w ≡ Some (digits_value 10 w) = cond-true (leb (digits_value 10 w) greatest_number) (Some (digits_value 10 w)) None h in
+          (cc, leb-true (digits_value 10 w) greatest_number h)
+      | inr h ↦
+          let f : number_of w ≡ None = cond-false (leb (digits_value 10 w) greatest_number) (Some (digits_value 10 w)) None h in
+          cc
+    ]
 
 -- TEXTS
 quote_apart : (u : ℕ) → IsTrue (is_text_char u) → 34 ≡ u → ⊥
@@ -142,7 +167,7 @@ text_begins text n start e lt q =
       fits = omega (arith, length-drop 1 text);
       token = subst (IsToken (t.Text (take n (drop 1 text)))) (sym front) (text_token all);
       longest = subst (λ v. IsLongest v (drop (n + 2) text)) (sym front) (text_longest (take n (drop 1 text)) (drop (n + 2) text) all);
-      follows = tt
+      follows = tt;
     }
 
 run_of : (cs r : List ℕ) → AllPass is_text_char cs → prefix_len is_text_char (cs ++ 34 ∷ r) ≡ length cs
@@ -162,3 +187,16 @@ text_run text k m start b =
     let run : prefix_len is_text_char (drop 1 text) ≡ length cs = ap (prefix_len is_text_char) inner ∙ run_of cs (drop m text) r.3 in
     let long : length (drop 1 text) ≡ length cs + length (34 ∷ drop m text) = ap length inner ∙ length-append cs (34 ∷ drop m text) in
     (omega arith, ap (λ i. get_or (drop 1 text) i 0) run ∙ ap (λ v. get_or v (length cs) 0) inner ∙ get_or_at cs 34 (drop m text) 0 (length cs) refl)
+
+-- the same where the rest behind the first sign " is named
+pub text_begins_at : (text inner : List ℕ) (n : ℕ) → inner ≡ drop 1 text → get_or text 0 0 ≡ 34 → n ≡ prefix_len is_text_char inner → n < length inner → get_or inner n 0 ≡ 34 → Begins text (t.Text (take n inner)) (n + 2)
+text_begins_at text inner n i start e lt q =
+    subst (λ v. n ≡ prefix_len is_text_char v → n < length v → get_or v n 0 ≡ 34 → Begins text (t.Text (take n v)) (n + 2)) (sym i) (text_begins text n start) e lt q
+
+pub text_run_at : (text inner : List ℕ) (n m : ℕ) (k : TokenKind) → inner ≡ drop 1 text → n ≡ prefix_len is_text_char inner → get_or text 0 0 ≡ 34 → Begins text k m → (n < length inner) × (get_or inner n 0 ≡ 34)
+text_run_at text inner n m k i e start b =
+    let r = text_run text k m start b in
+    let same : n ≡ prefix_len is_text_char (drop 1 text) = e ∙ ap (prefix_len is_text_char) i in
+    let long : length inner ≡ length (drop 1 text) = ap length i in
+    let lt = r.0 in
+    (omega arith, ap (λ v. get_or v n 0) i ∙ ap (λ j. get_or (drop 1 text) j 0) same ∙ r.1)

@@ -1,13 +1,13 @@
 -- A text begins with one token at most, and a text has one list of tokens at most.
-use Rattle.std.proofs.Common.{◌≡◌, ◌≢◌, ◌⊎◌, inl, inr, ℕ, suc, ◌+◌, ◌-◌, ◌<◌, ◌≤◌, Bool, true, false, List, [], ◌∷◌, ◌++◌, length, get_or, take, drop, refl, sym, ◌∙◌, ap, subst, arith, IsTrue, All}
-use Rattle.std.proofs.lemmas.Bool.{cases_order, false≢true, cond-true, cond-false}
+use Rattle.std.proofs.Common.{◌≡◌, inl, inr, ℕ, ◌+◌, ◌-◌, ◌<◌, false, List, [], ◌∷◌, ◌++◌, length, get_or, take, drop, refl, sym, ◌∙◌, ap, subst, arith, IsTrue, All}
+use Rattle.std.proofs.lemmas.Bool.{cases_order}
 use Rattle.std.proofs.lemmas.List.{take-append-drop, append-nil, length-take, length-drop, length-append, take_at, drop_at, drop-drop, take-take, drop-take, append_assoc, get_or-take}
 use Rattle.std.proofs.lemmas.List.Elements.{All-nil, All-push}
 use Rattle.actx_parse.specs.declared.token.TokenKind.{TokenKind}
 use Rattle.actx_parse.specs.declared.token.TokenKind.TheVariants as t
-use Rattle.actx_parse.specs.Lexical.{is_blank, is_digit, is_name_start, IsToken, IsLexeme, IsLongest, MayFollow, Tokens, at_end, at_blank, at_token, HasForm, name_token, keyword_token, number_token, text_token, sign_token}
+use Rattle.actx_parse.specs.Lexical.{is_blank, IsToken, IsLongest, MayFollow, Tokens, at_end, at_blank, at_token, HasForm, name_token, keyword_token, number_token, text_token, sign_token}
 use Rattle.actx_parse.specs.Lexeme.{Begins}
-use Rattle.actx_parse.proofs.LexKinds.{Class, word, digit, quote, blank, mark, class_of, kind_class, token_class, one_kind, nonempty_token}
+use Rattle.actx_parse.proofs.LexKinds.{blank, class_of, kind_class, token_class, one_kind, nonempty_token}
 
 -- CUTS
 pub front_grows : (n d : ℕ) (text : List ℕ) → take n text ++ take d (drop n text) ≡ take (n + d) text
@@ -32,7 +32,7 @@ begins_class text k n b =
     let e : get_or (take n text) 0 0 ≡ get_or text 0 0 = get_or-take n text 0 0 (begins_some text k n b) in
     ap class_of (sym e) ∙ token_class b.token
 
-no_blank_kind : (k : TokenKind) → kind_class k ≡ blank → ⊥
+pub no_blank_kind : (k : TokenKind) → kind_class k ≡ blank → ⊥
 no_blank_kind (t.Name x) e = cc
 no_blank_kind (t.Keyword q) e = cc
 no_blank_kind (t.Number n) e = cc
@@ -45,8 +45,8 @@ no_longer text k j n d pos a b =
     let fits = b.fits in
     let long : 0 < length (take d (drop n text)) = omega (arith, length-take d (drop n text), length-drop n text) in
     a.longest (take d (drop n text)) (drop (n + d) text) (rest_cut n d text)
-        (λ e. let z = ap length e in omega arith)
-        (inl (j, subst (IsToken j) (sym (front_grows n d text)) b.token))
+    (λ e. let z = ap length e in omega arith)
+    (inl (j, subst (IsToken j) (sym (front_grows n d text)) b.token))
 
 same_place : (text : List ℕ) (k j : TokenKind) (n m : ℕ) → n ≡ m → Begins text k n → Begins text j m → k ≡ j
 same_place text k j n m e a b = one_kind a.token (subst (λ i. IsToken j (take i text)) (sym e) b.token)
@@ -59,7 +59,7 @@ apart text k j n m lt a b =
 pub begins_once : (text : List ℕ) (k j : TokenKind) (n m : ℕ) → Begins text k n → Begins text j m → (k ≡ j) × (n ≡ m)
 begins_once text k j n m a b =
     elim (cases_order n m) [
-        inl e ↦ (same_place text k j n m e a b, e)
+      | inl e ↦ (same_place text k j n m e a b, e)
       | inr o ↦ elim o [ inl lt ↦ absurd (apart text k j n m lt a b) | inr gt ↦ absurd (apart text j k m n gt b a) ]
     ]
 
@@ -78,13 +78,13 @@ token_at {k} {w} {rest} {ts} h l f r =
     let front = take_at w rest (length w) refl in
     let back = drop_at w rest (length w) refl in
     f_token {n = length w} (nonempty_token k w h)
-        (record {
-            fits = omega (arith, length-append w rest);
-            token = subst (IsToken k) (sym front) h;
-            longest = subst (λ v. IsLongest v (drop (length w) (w ++ rest))) (sym front) (subst (IsLongest w) (sym back) l);
-            follows = subst (MayFollow k) (sym back) f
-        })
-        (subst (λ v. Tokens v ts) (sym back) r)
+    (record {
+      fits = omega (arith, length-append w rest);
+      token = subst (IsToken k) (sym front) h;
+      longest = subst (λ v. IsLongest v (drop (length w) (w ++ rest))) (sym front) (subst (IsLongest w) (sym back) l);
+      follows = subst (MayFollow k) (sym back) f;
+    })
+    (subst (λ v. Tokens v ts) (sym back) r)
 
 pub first_of : {text : List ℕ} {ts : List TokenKind} → Tokens text ts → First text ts
 first_of at_end = f_end
@@ -107,10 +107,10 @@ blank_left c cs ts h (f_token {k} {n} pos b r) = absurd (no_blank_kind k (sym (b
 pub cut_blank : (text : List ℕ) (done : List TokenKind) (rest : List ℕ) → 0 < length rest → IsTrue (is_blank (get_or rest 0 0)) → IsCutTo text done rest → IsCutTo text done (drop 1 rest)
 cut_blank text done [] pos h c = absurd (omega arith)
 cut_blank text done (b ∷ rest) pos h c = record {
-    whole = λ ts r. c.whole ts (at_blank h r);
-    only = λ ts r. let o = c.only ts r in (o.0, o.1, blank_left b rest o.0 h (first_of o.2));
-    form = c.form
-  }
+  whole = λ ts r. c.whole ts (at_blank h r);
+  only = λ ts r. let o = c.only ts r in (o.0, o.1, blank_left b rest o.0 h (first_of o.2));
+  form = c.form;
+}
 
 begun : (text : List ℕ) (k : TokenKind) (n : ℕ) (ts : List TokenKind) → Begins text k n → Tokens (drop n text) ts → Tokens text (k ∷ ts)
 begun text k n ts b r = subst (λ v. Tokens v (k ∷ ts)) (take-append-drop n text) (at_token b.token b.longest b.follows r)
@@ -134,13 +134,13 @@ begun_left text k n ts b (f_token {k = j} {n = m} {ts = us} pos a r) =
 
 pub cut_token : (text : List ℕ) (done : List TokenKind) (rest : List ℕ) (k : TokenKind) (n : ℕ) → Begins rest k n → IsCutTo text done rest → IsCutTo text (done ++ k ∷ []) (drop n rest)
 cut_token text done rest k n b c = record {
-    whole = λ ts r. subst (Tokens text) (sym (append_assoc done (k ∷ []) ts)) (c.whole (k ∷ ts) (begun rest k n ts b r));
-    only = λ ts r.
-        let o = c.only ts r in
-        let f = begun_left rest k n o.0 b (first_of o.2) in
-        (f.0, o.1 ∙ ap (λ v. done ++ v) f.1 ∙ sym (append_assoc done (k ∷ []) f.0), f.2);
-    form = All-push HasForm done k c.form (has_form b.token)
-  }
+  whole = λ ts r. subst (Tokens text) (sym (append_assoc done (k ∷ []) ts)) (c.whole (k ∷ ts) (begun rest k n ts b r));
+  only = λ ts r.
+      let o = c.only ts r in
+      let f = begun_left rest k n o.0 b (first_of o.2) in
+      (f.0, o.1 ∙ ap (λ v. done ++ v) f.1 ∙ sym (append_assoc done (k ∷ []) f.0), f.2);
+  form = All-push HasForm done k c.form (has_form b.token);
+}
 
 pub cut_whole : (text : List ℕ) (done : List TokenKind) → IsCutTo text done [] → Tokens text done
 cut_whole text done c = subst (Tokens text) (append-nil done) (c.whole [] at_end)

@@ -1,19 +1,18 @@
 -- Words, numbers and texts are read to the end of their runs.
-use Rattle.std.proofs.Common.{◌≡◌, ◌≢◌, ◌⊎◌, inl, inr, ℕ, suc, ◌+◌, ◌-◌, ◌<◌, ◌≤◌, Bool, true, false, List, [], ◌∷◌, ◌++◌, Option, Some, None, MatchOption, length, get_or, take, drop, refl, sym, ◌∙◌, ap, subst, arith, IsTrue, All, Contains}
+use Rattle.std.proofs.Common.{◌≡◌, ◌≢◌, inl, inr, ℕ, ◌+◌, ◌<◌, ◌≤◌, Bool, true, false, List, [], ◌∷◌, ◌++◌, length, get_or, take, drop, refl, sym, ◌∙◌, ap, subst, arith, IsTrue}
 use Rattle.std.specs.Str.Parse.{digits_value}
 use Rattle.std.specs.List.{prefix_len, list_all}
 use Rattle.std.proofs.lemmas.Bool.{false≢true, both_ways}
-use Rattle.std.proofs.lemmas.List.{take-append-drop, length-take, length-drop, length-append, get_or-take, get_or-drop, get_or_append_left, get_or-append_right, take_all, drop_more, drop_all, get_or_past, take_more, get_or-append-add}
-use Rattle.std.proofs.lemmas.List.Elements.{All-cons, All-tail, All-head, All-append, All-take, All-nil}
-use Rattle.std.proofs.lemmas.List.Sums.{prefix_len-le-length, prefix_len_passes, prefix_len_stops, prefix_len_is, AllPass-from_list_all}
+use Rattle.std.proofs.lemmas.List.{length-take, length-drop, length-append, get_or-take, get_or-drop, get_or_append_left, get_or-append_right}
+use Rattle.std.proofs.lemmas.List.Elements.{All-cons, All-tail}
+use Rattle.std.proofs.lemmas.List.Sums.{prefix_len_passes, prefix_len_stops, AllPass-from_list_all}
 use Rattle.actx_parse.specs.declared.token.Keyword.{Keyword}
 use Rattle.actx_parse.specs.declared.token.Keyword.TheVariants as k
 use Rattle.actx_parse.specs.declared.token.TokenKind.{TokenKind}
 use Rattle.actx_parse.specs.declared.token.TokenKind.TheVariants as t
-use Rattle.actx_parse.specs.Lexical.{is_blank, is_digit, is_letter, is_name_start, is_name_part, is_text_char, AllPass, keyword_text, refused_signs, greatest_number, IsDecimal, just_zero, digits_on, IsName, IsToken, name_token, keyword_token, number_token, text_token, sign_token, IsLexeme, IsLongest, begins_free, MayFollow}
+use Rattle.actx_parse.specs.Lexical.{is_name_start, is_name_part, AllPass, keyword_text, IsName, IsToken, name_token, keyword_token, IsLexeme, IsLongest, MayFollow}
 use Rattle.actx_parse.specs.Lexeme.{Begins}
-use Rattle.actx_parse.proofs.LexKinds.{Class, word, digit, quote, blank, mark, class_of, kind_class, token_class, word_class, digit_class, refused_class, Reading, r_name, r_keyword, r_number, r_text, r_sign, reading}
-use Rattle.actx_parse.proofs.LexOnce.{begins_some, begins_class, rest_cut}
+use Rattle.actx_parse.proofs.LexKinds.{Class, word, class_of, kind_class, token_class, word_class, refused_class, Reading, r_name, r_keyword, r_number, r_text, r_sign, reading}
 
 -- RUNS
 pub run_passes : (p : ℕ → Bool) (text : List ℕ) (n : ℕ) → n ≡ prefix_len p text → n ≤ length text → AllPass p (take n text)
@@ -134,7 +133,7 @@ word_begins text n j start e fits k h =
       fits = fits;
       token = h;
       longest = longest_run is_name_part text n word e fits pos (word_class (get_or text 0 0) start) word_lexeme;
-      follows = word_follows j (drop n text) k
+      follows = word_follows j (drop n text) k;
     }
 
 -- the run is a reserved word
@@ -157,5 +156,5 @@ name_begins text n start e fits free =
       is = split;
       starts = subst (λ v. IsTrue (is_name_start v)) (sym (get_or-take n text 0 0 pos)) start;
       goes_on = All-tail (λ c. IsTrue (is_name_part c)) (get_or (take n text) 0 0) (drop 1 (take n text)) (subst (AllPass is_name_part) split (run_passes is_name_part text n e fits));
-      free = free
+      free = free;
     }))

@@ -125,7 +125,10 @@ fn first_number(text: &[u8]) -> Option<Lexeme>
         return None;
     }
     let value = number_of(&text[..len])?;
-    Some(Lexeme { kind: TokenKind::Number(value), len })
+    Some(Lexeme {
+        kind: TokenKind::Number(value),
+        len,
+    })
 }
 
 /// The text in quotes that a text begins with (ECMA-262, 12.9.4), or `None` where it isn't closed.
@@ -140,7 +143,10 @@ fn first_text(alloc: Global, text: &[u8]) -> Result<Option<Lexeme>, NoMemory>
         return Ok(None);
     }
     let units = units_from(alloc, &inner[..len])?;
-    Ok(Some(Lexeme { kind: TokenKind::Text(units), len: len + 2 }))
+    Ok(Some(Lexeme {
+        kind: TokenKind::Text(units),
+        len: len + 2,
+    }))
 }
 
 /// The sign that a text begins with (ECMA-262, 12.8), or `None` where the longest punctuator is none.
@@ -151,7 +157,10 @@ fn first_sign(text: &[u8]) -> Option<Lexeme>
     ensures refused { IfNone result ((k : TokenKind) (n : ℕ) → Begins text.now k n → ⊥) }
 {
     let sign = longest_sign(byte_at(text, 0), byte_at(text, 1), byte_at(text, 2))?;
-    Some(Lexeme { kind: TokenKind::Sign(sign), len: sign_text(sign).len() })
+    Some(Lexeme {
+        kind: TokenKind::Sign(sign),
+        len: sign_text(sign).len(),
+    })
 }
 
 /// Whether a number may stand before this text: neither a name, a digit nor a dot does directly after it

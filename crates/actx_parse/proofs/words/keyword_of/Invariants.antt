@@ -1,4 +1,4 @@
-use Rattle.std.proofs.Common.{◌≡◌, ◌≢◌, ℕ, ◌<◌, get_or}
+use Rattle.std.proofs.Common.{◌≢◌, ℕ, ◌<◌, get_or}
 use Rattle.actx_parse.specs.declared.token.Keyword.{Keyword}
 use Rattle.actx_parse.specs.declared.words.TheConstants.{KEYWORDS}
 use Rattle.actx_parse.specs.Lexical.{keyword_text}
