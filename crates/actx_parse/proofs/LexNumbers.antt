@@ -41,7 +41,7 @@ number_reading j v e (r_number p h l) = (p, h, l)
 number_reading j v e (r_text cs p h l) = let f : kind_class (t.Text cs) ≡ digit = ap kind_class (sym p) ∙ e in cc
 number_reading j v e (r_sign s p h) = let f : kind_class (t.Sign s) ≡ digit = ap kind_class (sym p) ∙ e in cc
 
-number_lexeme : (v : List ℕ) → IsLexeme v → class_of (get_or v 0 0) ≡ digit → AllPass is_digit v
+pub number_lexeme : (v : List ℕ) → IsLexeme v → class_of (get_or v 0 0) ≡ digit → AllPass is_digit v
 number_lexeme v (inl (j, h)) e = decimal_digits v (number_reading j v (sym (token_class h) ∙ e) (reading h)).1
 number_lexeme v (inr r) e = let f = refused_class v r in cc
 

@@ -101,7 +101,7 @@ keyword_parts k.Yield = refl
 pub start_part : (c : ℕ) → IsTrue (is_name_start c) → IsTrue (is_name_part c)
 start_part c h = grind arith
 
-name_parts : (x : List ℕ) → IsName x → AllPass is_name_part x
+pub name_parts : (x : List ℕ) → IsName x → AllPass is_name_part x
 name_parts x h = subst (AllPass is_name_part) (sym h.is) (All-cons (λ c. IsTrue (is_name_part c)) h.first h.more (start_part h.first h.starts) h.goes_on)
 
 word_reading : (j : TokenKind) (v : List ℕ) → kind_class j ≡ word → Reading j v → AllPass is_name_part v
@@ -111,7 +111,7 @@ word_reading j v e (r_number p h l) = let f : kind_class (t.Number (digits_value
 word_reading j v e (r_text cs p h l) = let f : kind_class (t.Text cs) ≡ word = ap kind_class (sym p) ∙ e in cc
 word_reading j v e (r_sign s p h) = let f : kind_class (t.Sign s) ≡ word = ap kind_class (sym p) ∙ e in cc
 
-word_lexeme : (v : List ℕ) → IsLexeme v → class_of (get_or v 0 0) ≡ word → AllPass is_name_part v
+pub word_lexeme : (v : List ℕ) → IsLexeme v → class_of (get_or v 0 0) ≡ word → AllPass is_name_part v
 word_lexeme v (inl (j, h)) e = word_reading j v (sym (token_class h) ∙ e) (reading h)
 word_lexeme v (inr r) e = let f = refused_class v r in cc
 

@@ -220,7 +220,7 @@ refused_fits v h = let P : List ℕ → Type 0 = λ v. (y : List ℕ) → Fits (
   ),
 )) h
 
-mark_reading : (j : TokenKind) (v : List ℕ) → kind_class j ≡ mark → Reading j v → (s : Sign) × (j ≡ t.Sign s) × (v ≡ sign_text s)
+pub mark_reading : (j : TokenKind) (v : List ℕ) → kind_class j ≡ mark → Reading j v → (s : Sign) × (j ≡ t.Sign s) × (v ≡ sign_text s)
 mark_reading j v e (r_name p h) = let f : kind_class (t.Name v) ≡ mark = ap kind_class (sym p) ∙ e in cc
 mark_reading j v e (r_keyword q p h) = let f : kind_class (t.Keyword q) ≡ mark = ap kind_class (sym p) ∙ e in cc
 mark_reading j v e (r_number p h l) = let f : kind_class (t.Number (digits_value 10 v)) ≡ mark = ap kind_class (sym p) ∙ e in cc

@@ -3,3 +3,5 @@ pub mod LexOnce
 pub mod LexRuns
 pub mod LexNumbers
 pub mod LexSigns
+pub mod LayoutSteps
+pub mod LayoutReads
