@@ -1,0 +1,7 @@
+pub mod LexKinds
+pub mod LexOnce
+pub mod LexRuns
+pub mod LexNumbers
+pub mod LexSigns
+pub mod LayoutSteps
+pub mod LayoutReads

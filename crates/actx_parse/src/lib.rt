@@ -1,7 +1,10 @@
 //! Tokens, trees and both grammars: from a text to its tree and back, as `const a = 1;` is a program of one item.
 #![tactic(auto)]
 
+pub mod emit;
+pub mod lex;
 pub mod name;
 pub mod side;
 pub mod token;
 pub mod tree;
+mod words;
