@@ -1,0 +1,3 @@
+pub mod ParseNames
+pub mod ParseComplete
+pub mod ParseAll

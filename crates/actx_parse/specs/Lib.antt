@@ -1,6 +1,7 @@
 pub mod Lexical
 pub mod Tree
 pub mod Grammar
+pub mod Parser
 pub mod Static
 pub mod Accepts
 pub mod Spell
