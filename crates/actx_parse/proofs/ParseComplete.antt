@@ -221,18 +221,18 @@ mutual
   complete {side = side} (sp_text {u = u} h) b o s r k i m = leaf side b o s (t.Text u) (Text u) r (omega (arith, m.deep)) m.more refl
   complete {side = side} (sp_name {x = x} h) b o s r k i m =
       leaf side b o s (t.Name x) (Named x) r (omega (arith, m.deep)) m.more (name_read side o s x (reference_no_console side x h) (reference_passes h))
-  complete {side = side} (sp_paren {e = e} {x = x} p) b o s r k i m =
+  complete {side = side} (sp_paren {d = d} {e = e} {x = x} p) b o s r k i m =
       let least : suc (leaf_reach s) ≤ deepest side = omega (arith, m.deep, high_some p, high_most p) in
-      let room : Room side _ (in_paren ∷ s) = record { deep = omega (arith, m.deep); more = refl } in
+      let room : Room side d (in_paren ∷ s) = record { deep = omega (arith, m.deep); more = refl } in
       paren_begins side b o s ((x ++ t.Sign g.CloseParen ∷ []) ++ r) least m.more
       ∙ ap (run side b (need o) (in_paren ∷ s)) (append_assoc x (t.Sign g.CloseParen ∷ []) r)
       ∙ complete p b o (in_paren ∷ s) (t.Sign g.CloseParen ∷ r) (own_least p (omega arith)) (omega arith) room
       ∙ reaches side b o e (high p + suc (suc (length s))) (suc (high p) + suc (length s)) s r (omega arith)
-  complete {side = side} (sp_binary {a = a} {b = c} {x = x} {y = y} op h p q) b o s r k i m =
+  complete {side = side} (sp_binary {d = d} {a = a} {b = c} {x = x} {y = y} op h p q) b o s r k i m =
       let here : level_in s ≤ own p = omega (arith, own_least p (omega (arith, level_small op))) in
       let sign : binds (t.Sign (sign_of op) ∷ (y ++ r)) ≤ own p = omega (arith, own_least p (omega (arith, level_small op)), binds_sign op (y ++ r)) in
-      let left : Room side _ s = record { deep = omega (arith, m.deep); more = m.more } in
-      let right : Room side _ (in_binary op a (suc (high p + suc (length s))) ∷ s) = record { deep = omega (arith, m.deep); more = refl } in
+      let left : Room side d s = record { deep = omega (arith, m.deep); more = m.more } in
+      let right : Room side d (in_binary op a (suc (high p + suc (length s))) ∷ s) = record { deep = omega (arith, m.deep); more = refl } in
       ap (run side b (need o) s) (append_assoc x (t.Sign (sign_of op) ∷ y) r)
       ∙ complete p b o s (t.Sign (sign_of op) ∷ (y ++ r)) here sign left
       ∙ sign_opens side b o op a (high p + suc (length s)) s (y ++ r) k (omega (arith, m.deep, high_most p))
@@ -258,13 +258,13 @@ mutual
 
   pub complete_closed : {side : Side} {d : ℕ} {es : Exprs} {x : List TokenKind} (p : SpellsList side d es x) (b : Stmts) (o : Owner) (s : List Frame) (r : List TokenKind) → Allows side (count es) → d + suc (suc (length s)) ≤ deepest side
       → run side b (need o) (in_log none (leaf_reach s) ∷ s) (x ++ t.Sign g.CloseParen ∷ r) ≡ run side b (have o (Built Log es) (high_list p + suc (suc (length s)))) s r
-  complete_closed {side = side} (sp_one {e = e} p) b o s r n m =
-      let room : Room side _ (in_log none (leaf_reach s) ∷ s) = record { deep = m; more = more_taken side none e n } in
+  complete_closed {side = side} (sp_one {d = d} {e = e} p) b o s r n m =
+      let room : Room side d (in_log none (leaf_reach s) ∷ s) = record { deep = m; more = more_taken side none e n } in
       complete p b o (in_log none (leaf_reach s) ∷ s) (t.Sign g.CloseParen ∷ r) (own_least p (omega arith)) (omega arith) room
       ∙ reaches side b o (Built Log (also e none)) (max (leaf_reach s) (high p + suc (suc (length s)))) (high p + suc (suc (length s))) s r (omega arith)
-  complete_closed {side = side} (sp_more {es = es} {e = e} {x = x} {y = y} p q) b o s r n m =
+  complete_closed {side = side} (sp_more {d = d} {es = es} {e = e} {x = x} {y = y} p q) b o s r n m =
       let so_far : ℕ = high_list p + suc (suc (length s)) in
-      let room : Room side _ (in_log es so_far ∷ s) = record { deep = m; more = more_taken side es e n } in
+      let room : Room side d (in_log es so_far ∷ s) = record { deep = m; more = more_taken side es e n } in
       ap (run side b (need o) (in_log none (leaf_reach s) ∷ s)) (append_assoc x (t.Sign g.Comma ∷ y) (t.Sign g.CloseParen ∷ r))
       ∙ complete_comma p b o s (y ++ t.Sign g.CloseParen ∷ r) (allows_less side es e n) m
       ∙ complete q b o (in_log es so_far ∷ s) (t.Sign g.CloseParen ∷ r) (own_least q (omega arith)) (omega arith) room
@@ -272,14 +272,14 @@ mutual
 
   pub complete_comma : {side : Side} {d : ℕ} {es : Exprs} {x : List TokenKind} (p : SpellsList side d es x) (b : Stmts) (o : Owner) (s : List Frame) (r : List TokenKind) → Allows side (count es) → d + suc (suc (length s)) ≤ deepest side
       → run side b (need o) (in_log none (leaf_reach s) ∷ s) (x ++ t.Sign g.Comma ∷ r) ≡ run side b (need o) (in_log es (high_list p + suc (suc (length s))) ∷ s) r
-  complete_comma {side = side} (sp_one {e = e} p) b o s r n m =
-      let room : Room side _ (in_log none (leaf_reach s) ∷ s) = record { deep = m; more = more_taken side none e n } in
+  complete_comma {side = side} (sp_one {d = d} {e = e} p) b o s r n m =
+      let room : Room side d (in_log none (leaf_reach s) ∷ s) = record { deep = m; more = more_taken side none e n } in
       let reach : max (leaf_reach s) (high p + suc (suc (length s))) ≡ high p + suc (suc (length s)) = omega arith in
       complete p b o (in_log none (leaf_reach s) ∷ s) (t.Sign g.Comma ∷ r) (own_least p (omega arith)) (omega arith) room
       ∙ ap (λ k. run side b (need o) (in_log (also e none) k ∷ s) r) reach
-  complete_comma {side = side} (sp_more {es = es} {e = e} {x = x} {y = y} p q) b o s r n m =
+  complete_comma {side = side} (sp_more {d = d} {es = es} {e = e} {x = x} {y = y} p q) b o s r n m =
       let so_far : ℕ = high_list p + suc (suc (length s)) in
-      let room : Room side _ (in_log es so_far ∷ s) = record { deep = m; more = more_taken side es e n } in
+      let room : Room side d (in_log es so_far ∷ s) = record { deep = m; more = more_taken side es e n } in
       let reach : max so_far (high q + suc (suc (length s))) ≡ max (high_list p) (high q) + suc (suc (length s)) = omega arith in
       ap (run side b (need o) (in_log none (leaf_reach s) ∷ s)) (append_assoc x (t.Sign g.Comma ∷ y) (t.Sign g.Comma ∷ r))
       ∙ complete_comma p b o s (y ++ t.Sign g.Comma ∷ r) (allows_less side es e n) m
