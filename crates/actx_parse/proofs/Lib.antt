@@ -5,3 +5,4 @@ pub mod ParseDeeper
 pub mod ParseOpen
 pub mod ParseStep
 pub mod ParseSound
+pub mod ParseStack

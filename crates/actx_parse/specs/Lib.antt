@@ -7,3 +7,4 @@ pub mod Accepts
 pub mod Spell
 pub mod Layout
 pub mod View
+pub mod ParserView

@@ -75,9 +75,15 @@ abbrev pub takes_more : Side → ℕ → Bool
 takes_more Source n = nat_lt n 8
 takes_more Plain n = true
 
+-- whether one more operand may stand on a frame
+abbrev pub frame_room : Side → Frame → Bool
+frame_room side (in_binary op e reach) = true
+frame_room side in_paren = true
+frame_room side (in_log es reach) = takes_more side (count es)
+
 abbrev pub has_room : Side → List Frame → Bool
-has_room side (in_log es reach ∷ s) = takes_more side (count es)
-has_room side _ = true
+has_room side [] = true
+has_room side (f ∷ s) = frame_room side f
 
 -- OPERANDS
 abbrev pub name_operand : Side → Owner → List Frame → List ℕ → Move

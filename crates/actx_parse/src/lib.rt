@@ -2,6 +2,7 @@
 #![tactic(auto)]
 
 pub mod name;
+pub mod parse;
 pub mod side;
 pub mod token;
 pub mod tree;
