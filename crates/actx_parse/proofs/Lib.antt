@@ -6,3 +6,4 @@ pub mod ParseOpen
 pub mod ParseStep
 pub mod ParseSound
 pub mod ParseStack
+pub mod ParseRun
