@@ -5,3 +5,12 @@ pub mod LexNumbers
 pub mod LexSigns
 pub mod LayoutSteps
 pub mod LayoutReads
+pub mod ParseNames
+pub mod ParseComplete
+pub mod ParseAll
+pub mod ParseDeeper
+pub mod ParseOpen
+pub mod ParseStep
+pub mod ParseSound
+pub mod ParseStack
+pub mod ParseRun

@@ -4,6 +4,7 @@
 pub mod emit;
 pub mod lex;
 pub mod name;
+pub mod parse;
 pub mod side;
 pub mod token;
 pub mod tree;
