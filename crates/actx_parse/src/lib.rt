@@ -1,6 +1,7 @@
 //! Tokens, trees and both grammars: from a text to its tree and back, as `const a = 1;` is a program of one item.
 #![tactic(auto)]
 
+pub mod check;
 pub mod name;
 pub mod side;
 pub mod token;
