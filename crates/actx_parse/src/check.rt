@@ -6,6 +6,8 @@ ghost use Rattle.actx_parse.specs.Static.{AreKnown, Clean, CleanFrom, IsNew, IsS
 ghost use Rattle.actx_parse.specs.View.{expr_view, exprs_view, items_view, program_view, stmt_view, stmts_view};
 
 mod known;
+#[cfg(test)]
+mod tests;
 
 use crate::name::Name;
 use crate::tree::{ConstItem, Expr, Form, Program, Stmt};
