@@ -14,3 +14,4 @@ pub mod ParseStep
 pub mod ParseSound
 pub mod ParseStack
 pub mod ParseRun
+pub mod CheckRules

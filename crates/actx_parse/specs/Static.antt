@@ -1,5 +1,5 @@
 -- The static rules (ECMA-262, 14.3.1.1 and 16.1.1, restricted), and the forms that are taken today.
-use Rattle.std.specs.Prelude.{◌≡◌, ℕ, List, [], ◌∷◌, ◌++◌, All, Contains, codes}
+use Rattle.std.specs.Prelude.{ℕ, List, [], ◌∷◌, ◌++◌, All, Contains, codes}
 use Rattle.actx_parse.specs.declared.tree.Form.TheVariants.{Log}
 use Rattle.actx_parse.specs.Tree.{Expr, Num, Text, Named, Binary, Built, Exprs, none, also, Items, no_items, item, Stmt, Const, Value, Stmts, end, next}
 
@@ -39,10 +39,19 @@ abbrev pub ItemsClean : List (List ℕ) → Items → Type 0
 ItemsClean known no_items = Unit {0}
 ItemsClean known (item x e is) = AreKnown known (uses e) × IsNew known x × ItemsClean (x ∷ known) is
 
+-- a statement that keeps the rules
+abbrev pub StmtClean : List (List ℕ) → Stmt → Type 0
+StmtClean known (Const is) = ItemsClean known is
+StmtClean known (Value e) = AreKnown known (uses e)
+
+-- the names that are bound after a statement
+abbrev pub known_then : List (List ℕ) → Stmt → List (List ℕ)
+known_then known (Const is) = known_after known is
+known_then known (Value e) = known
+
 abbrev pub CleanFrom : List (List ℕ) → Stmts → Type 0
 CleanFrom known end = Unit {0}
-CleanFrom known (next (Const is) ss) = ItemsClean known is × CleanFrom (known_after known is) ss
-CleanFrom known (next (Value e) ss) = AreKnown known (uses e) × CleanFrom known ss
+CleanFrom known (next st ss) = StmtClean known st × CleanFrom (known_then known st) ss
 
 -- no offence stands in the program, and no name is used early
 abbrev pub Clean : Stmts → Type 0

@@ -3,6 +3,7 @@
 
 pub mod emit;
 pub mod lex;
+pub mod check;
 pub mod name;
 pub mod parse;
 pub mod side;
