@@ -14,7 +14,7 @@ mod value;
 pub use end::End;
 pub use event::Event;
 pub use faults::NoMemory;
-pub use number::add;
+pub use number::{add, mul, number_text, sub};
 pub use shown::{ErrorName, Shown};
 pub use trace::{JobKind, TraceEvent};
 pub use twin::Twin;
