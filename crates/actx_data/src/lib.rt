@@ -20,3 +20,6 @@ pub use trace::{JobKind, TraceEvent};
 pub use twin::Twin;
 pub use units::{Units, join};
 pub use value::Value;
+
+#[cfg(test)]
+mod tests;

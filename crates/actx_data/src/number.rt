@@ -55,6 +55,56 @@ pub fn number_text(alloc: Global, n: i64) -> Result<Units, NoMemory>
     ensures { IfOk result (λ u. u ≡ signed_decimal n) }
 {
     let text = format!(in alloc; "{n}")?;
-    let list = text.as_bytes().iter().map(|b| u16::from(*b)).collect(alloc)?;
+    let list = text
+        .as_bytes()
+        .iter()
+        .map(|b| u16::from(*b))
+        .collect(alloc)?;
     Ok(Units::from_vec(list))
+}
+
+#[cfg(test)]
+mod tests {
+    use super::*;
+    use std::test::Fail;
+
+    #[test]
+    fn arithmetic_ends_at_the_greatest_and_the_least(rt: HostRuntime) {
+        assert_eq!(rt; add(9_007_199_254_740_990, 1), Some(9_007_199_254_740_991));
+        assert_eq!(rt; add(9_007_199_254_740_991, 1), None);
+        assert_eq!(rt;
+            add(-9_007_199_254_740_990, -1),
+            Some(-9_007_199_254_740_991)
+        );
+        assert_eq!(rt; add(-9_007_199_254_740_991, -1), None);
+        assert_eq!(rt; sub(2, 5), Some(-3));
+        assert_eq!(rt;
+            sub(-9_007_199_254_740_990, 1),
+            Some(-9_007_199_254_740_991)
+        );
+        assert_eq!(rt; sub(-9_007_199_254_740_991, 1), None);
+        assert_eq!(rt; sub(9_007_199_254_740_991, -1), None);
+        // 2^53 - 1 is 441,650,591 times 20,394,401.
+        assert_eq!(rt; mul(441_650_591, 20_394_401), Some(9_007_199_254_740_991));
+        assert_eq!(rt; mul(-441_650_591, 20_394_401), Some(-9_007_199_254_740_991));
+        assert_eq!(rt; mul(4_503_599_627_370_496, 2), None);
+        assert_eq!(rt; mul(9_007_199_254_740_991, 9_007_199_254_740_991), None);
+        assert_eq!(rt; mul(-9_007_199_254_740_991, 9_007_199_254_740_991), None);
+    }
+
+    #[test]
+    fn number_texts(rt: HostRuntime) -> Result<(), Fail> {
+        let cases = [
+            (0, "0"),
+            (-1, "-1"),
+            (9_007_199_254_740_991, "9007199254740991"),
+            (-9_007_199_254_740_991, "-9007199254740991"),
+        ];
+        for (number, text) in cases {
+            let units = number_text(rt.alloc(), number)?;
+            let shown = units.to_text(rt.alloc())?;
+            assert_eq!(rt; shown.as_str(), text);
+        }
+        Ok(())
+    }
 }

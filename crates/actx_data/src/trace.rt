@@ -27,15 +27,8 @@ pub enum TraceEvent {
     Job(JobKind, Shown),
     /// The answer of the k-th variable's `get`.
     Get(u64, Shown),
-    Begin {
-        id: u64,
-        parent: u64,
-        name: Units,
-    },
-    Finish {
-        id: u64,
-        ok: bool,
-    },
+    Begin { id: u64, parent: u64, name: Units },
+    Finish { id: u64, ok: bool },
 }
 
 impl Twin for TraceEvent {

@@ -127,3 +127,38 @@ pub fn join(alloc: Global, a: &Units, b: &Units) -> Result<Option<Units>, NoMemo
     list.extend_from_slice(b.as_slice())?;
     Ok(Some(Units { list }))
 }
+
+#[cfg(test)]
+mod tests {
+    use super::*;
+    use std::test::Fail;
+
+    #[test]
+    fn joined_texts_end_at_the_longest(rt: HostRuntime) -> Result<(), Fail> {
+        let long = Units::from_vec(vec![in rt.alloc(); 97u16; 1_048_575]?);
+        let one = Units::from_list(rt.alloc(), &[98])?;
+        let two = Units::from_list(rt.alloc(), &[98, 99])?;
+        let Some(longest) = join(rt.alloc(), &long, &one)? else {
+            return Err(Fail::from("1,048,576 units are a text"));
+        };
+        assert_eq!(rt; longest.len(), 1_048_576);
+        assert_eq!(rt; longest.as_slice().last(), Some(&98));
+        assert!(rt; join(rt.alloc(), &long, &two)?.is_none());
+        assert!(rt; join(rt.alloc(), &two, &long)?.is_none());
+        Ok(())
+    }
+
+    #[test]
+    fn units_are_seen_as_their_list(rt: HostRuntime) -> Result<(), Fail> {
+        let none = Units::from_list(rt.alloc(), &[])?;
+        assert!(rt; none.is_empty());
+        let half = Units::from_list(rt.alloc(), &[0xD83D, 0xDE00, 0xD800])?;
+        assert!(rt; half.len() == 3 && !half.is_empty());
+        assert_eq!(rt; half.unit(2), 0xD800);
+        let text = half.to_text(rt.alloc())?;
+        assert_eq!(rt; text.as_str(), "\u{1F600}\u{FFFD}");
+        let twin = half.copy(rt.alloc())?;
+        assert!(rt; twin == half && half != none);
+        Ok(())
+    }
+}
