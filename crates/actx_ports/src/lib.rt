@@ -1,13 +1,21 @@
-// A library with one function.
+//! Cabinets of files and sinks for bytes: all that the compiler reads and writes goes through them. As an example,
+//! `read_whole(alloc, &mut files, "a.js", 1_048_576)` is the text of `a.js` in a cabinet that holds it.
 #![tactic(auto)]
 
-ghost use Rattle.std.specs.Prelude.{◌≡◌};
-ghost use Rattle.actx_ports.specs.Echo.{echo_of};
+mod cabinet;
+mod edge;
+mod faults;
+mod memory;
+mod schedule;
+mod shelf;
+mod sink;
+mod steady;
+mod whole;
 
-// The `ensures` clause is the contract: what `echo` returns is `echo_of` of its argument, a definition
-// in `specs/Echo.antt`, which a caller's clause can cite too.
-pub fn echo(x: usize) -> usize
-    ensures { result ≡ echo_of x }
-{
-    x
-}
+pub use cabinet::Cabinet;
+pub use edge::{FileCabinet, StdSink};
+pub use faults::PortFault;
+pub use memory::{MemoryCabinet, MemorySink};
+pub use sink::Sink;
+pub use steady::{SteadyCabinet, SteadySink};
+pub use whole::{read_whole, write_whole};
