@@ -1,7 +1,7 @@
-use Rattle.std.proofs.Common.{◌≡◌, ◌≤◌, ◌<◌, ◌+◌, ◌-◌, ℕ, List, [], ◌∷◌, ◌++◌, length, take, drop, get_or, Option, Some, None, option_map, true, sym, ap, ◌∙◌, arith, refl, ◌⊎◌, inl, inr}
-use Rattle.std.specs.Prelude.{position, unwrap_or, slice_get, string_bytes}
+use Rattle.std.proofs.Common.{◌≡◌, ◌≤◌, ◌+◌, ◌-◌, ℕ, List, [], ◌∷◌, ◌++◌, length, take, drop, Some, arith, append_assoc, ◌⊎◌, inl, inr}
+use Rattle.std.specs.Prelude.{string_bytes}
 use Rattle.std.proofs.lemmas.Grind.{common_steps}
-use Rattle.std.proofs.lemmas.List.{take-append-drop, drop-take, take_all, length-drop}
+use Rattle.std.proofs.lemmas.List.{take-append-drop, take-append-le, drop-take, take_all, length-drop}
 use Rattle.std.proofs.lemmas.List.Quantifiers.{position-Some}
 use Rattle.std.proofs.lemmas.Option.{slice_get-get_or}
 use Rattle.std.proofs.lemmas.Slice.Eq.{bytes_eq-Decides}
@@ -27,3 +27,9 @@ rest_is i xs = take_all _ _ (omega (arith, length-drop i xs))
 pub take_front : (limit : ℕ) (xs ys : List ℕ) → length xs ≤ limit → (length xs ≡ limit) ⊎ (ys ≡ []) → take limit (xs ++ ys) ≡ xs
 take_front limit xs ys h (inl e) = rw (← e) (grind (arith, common_steps))
 take_front limit xs ys h (inr e) = rw e (grind (arith, common_steps, take_all limit xs h))
+
+-- n bytes of a buffer that went from what was left to the text
+pub moves_on : (n : ℕ) (bs text got tail rest left after : List ℕ) → n ≤ length got → bs ≡ text ++ left → left ≡ take n got ++ rest → after ≡ text ++ take n (got ++ tail) → bs ≡ after ++ rest
+moves_on n bs text got tail rest left after fits told gave took =
+    let cut : take n (got ++ tail) ≡ take n got = rw take-append-le in
+    rw (took, cut, append_assoc, ← gave) told

@@ -19,3 +19,6 @@ pub use memory::{MemoryCabinet, MemorySink};
 pub use sink::Sink;
 pub use steady::{SteadyCabinet, SteadySink};
 pub use whole::{read_whole, write_whole};
+
+#[cfg(test)]
+mod tests;

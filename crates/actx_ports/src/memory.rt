@@ -128,7 +128,7 @@ impl Sink for MemorySink {
     /// Takes as many bytes as there are, up to the greatest piece.
     ///
     /// Errors: `Failed`, exactly where the number of the call is listed, or the piece is 0 and there are bytes;
-    /// `NoMemory`.
+    /// `NoMemory`, only where there is a byte to take.
     fn write_some(&mut self, bytes: &[u8]) -> Result<usize, PortFault>
         ensures count { IfOk result (λ n. n ≡ min (length bytes.now) self.old.piece) }
         ensures bytes { IfOk result (λ n. self.new.bytes.items ≡ self.old.bytes.items ++ take n bytes.now) }
@@ -137,6 +137,7 @@ impl Sink for MemorySink {
         ensures later { self.old.schedule.faults ≤ self.new.schedule.faults }
         ensures cause { IsErrOf result PortFault.Failed → Rose self.old.schedule.faults self.new.schedule.faults }
         ensures fails { IsErrOf result PortFault.Failed ↔ IsTrue (refuses self.old.schedule self.old.piece (length bytes.now)) }
+        ensures memory { IsErrOf result PortFault.NoMemory → 0 < min (length bytes.now) self.old.piece }
         ensures counts { self.new.schedule ≡ after_call self.old.schedule (refuses self.old.schedule self.old.piece (length bytes.now)) }
     {
         let listed = self.schedule.call();

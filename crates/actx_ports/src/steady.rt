@@ -100,12 +100,12 @@ impl Sink for SteadySink {
 
     /// Takes all bytes.
     ///
-    /// Errors: `NoMemory`.
+    /// Errors: `NoMemory`, only where there is a byte to take.
     fn write_some(&mut self, bytes: &[u8]) -> Result<usize, PortFault>
         ensures count { IfOk result (λ n. n ≡ length bytes.now) }
         ensures bytes { OnOk result (self.new.bytes.items ≡ self.old.bytes.items ++ bytes.now) }
         ensures refused { OnErr result (self.new.bytes.items ≡ self.old.bytes.items) }
-        ensures memory { OnErr result (IsErrOf result PortFault.NoMemory) }
+        ensures memory { OnErr result (IsErrOf result PortFault.NoMemory × (0 < length bytes.now)) }
     {
         self.bytes.extend_from_slice(bytes)?;
         Ok(bytes.len())

@@ -1,6 +1,5 @@
-use Rattle.std.proofs.Common.{rules, arith, ◌≡◌, ◌≤◌, ◌+◌, ◌++◌, ◌∙◌, ◌⊎◌, inl, inr, sym, List, ℕ, [], length, take, drop, Some, ap, append_assoc, vec_len}
-use Rattle.std.proofs.lemmas.List.{take-append-le}
-use Rattle.actx_ports.proofs.Lists.{take_front}
+use Rattle.std.proofs.Common.{rules, arith, ◌≡◌, ◌≤◌, ◌∙◌, ◌⊎◌, inl, inr, sym, [], length, drop}
+use Rattle.actx_ports.proofs.Lists.{take_front, moves_on}
 use Rattle.actx_ports.proofs.whole.read_whole.Goals as goal
 use Rattle.actx_ports.proofs.whole.read_whole.Goals.{else-loop-buffer-test, then-loop-buffer-test+in_ok-n+then-n-eq0}
 
@@ -10,7 +9,7 @@ loop-buffer-preserved g c =
     let text = c.loop-buffer.text.items in
     let got = c.read_some.new.buffer in
     let fits : n ≤ length got = search rules in
-    let cut : take n (got ++ drop c.min-room.result c.loop-buffer.buffer) ≡ take n got = rw take-append-le in
+    let tail = drop c.min-room.result c.loop-buffer.buffer in
     record {
       within = search rules;
       room = search rules;
@@ -20,8 +19,7 @@ loop-buffer-preserved g c =
       told = λ bs e.
           let t = c.loop-buffer.invariant.told bs e in
           let h = c.in_ok-n.ensures.bytes t.0 t.1 in
-          let p = c.in_ok-extend_from_slice.ensures.items ∙ ap (λ xs. text ++ xs) cut in
-          (h.0, h.2, t.2 ∙ ap (λ r. text ++ r) h.1 ∙ sym (append_assoc text (take n got) h.0) ∙ ap (λ xs. xs ++ h.0) (sym p));
+          (h.0, h.2, moves_on n bs text got tail h.0 t.0 c.extend_from_slice.new.self.items fits t.2 h.1 c.in_ok-extend_from_slice.ensures.items);
     }
 
 pub returns-clause-bytes : goal.returns-clause-bytes

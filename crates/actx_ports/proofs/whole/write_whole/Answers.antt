@@ -1,4 +1,4 @@
-use Rattle.std.proofs.Common.{rules, arith, ◌≡◌, ◌≤◌, ◌+◌, ◌++◌, ◌∙◌, List, ℕ, length, take, drop, Some, ap, append_assoc}
+use Rattle.std.proofs.Common.{rules, ◌≤◌, ◌+◌, ◌++◌, ◌∙◌, length, take, drop, Some, ap, append_assoc}
 use Rattle.actx_ports.proofs.Lists.{take_then, rest_is}
 use Rattle.actx_ports.proofs.whole.write_whole.Goals as goal
 
