@@ -143,5 +143,6 @@ fn files_of_the_system(rt: HostRuntime) -> Result<(), Fail> {
     assert_eq!(rt; whole.as_slice(), b"print(1);\n".as_slice());
     let part = read_whole(rt.alloc(), &mut files, "written.js", 5)?;
     assert_eq!(rt; part.as_slice(), b"print".as_slice());
+    fs::remove_file(&rt, "written.js")?;
     Ok(())
 }
