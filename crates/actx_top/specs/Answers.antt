@@ -26,7 +26,7 @@ file_of _ = []
 
 -- THE RUN
 -- the greatest number of steps of a run
-abbrev pub most_steps : ℕ
+unfoldable pub most_steps : ℕ
 most_steps = 20000000
 
 -- what the emitted program shows where no host event comes
@@ -39,13 +39,23 @@ status_of (Threw v) = 1
 status_of Left = 4
 status_of Going = 5
 
--- what an accepted program's run makes of the status and the output
-pub record Ran (status : ℕ) (p : Stmts) (before after : Option (List ℕ)) : Type 0 where
-  -- the status is that of the run's end, or a file couldn't be read, the output couldn't be written, or memory was wanting
-  pub answer : (status ≡ status_of (run_shows p).end) ⊎ ((status ≡ 6) ⊎ ((status ≡ 7) ⊎ (status ≡ 70)))
-  -- at the status of the run's end all lines were written
-  pub whole : status ≡ status_of (run_shows p).end → AddsAll before (lines_of (run_shows p).trace) after
-  -- at every status some first part of them was
+abbrev pub IsThrow : End → Type 0
+IsThrow (Threw v) = Unit {0}
+IsThrow _ = ⊥
+
+-- what a run with these lines, whose end has this status, makes of the answer and the output
+pub record Wrote (answer status : ℕ) (lines : List ℕ) (before after : Option (List ℕ)) : Type 0 where
+  -- the answer is the status of the run's end, or the output couldn't be written, or memory was wanting
+  pub cause : (answer ≡ status) ⊎ ((answer ≡ 7) ⊎ (answer ≡ 70))
+  -- at that status all lines were written
+  pub whole : answer ≡ status → AddsAll before lines after
+  -- at every answer some first part of them was
+  pub part : AddsPart before lines after
+
+-- what an accepted program makes of the answer and the output, or its file couldn't be read
+pub record Ran (answer : ℕ) (p : Stmts) (before after : Option (List ℕ)) : Type 0 where
+  pub cause : (answer ≡ status_of (run_shows p).end) ⊎ ((answer ≡ 6) ⊎ ((answer ≡ 7) ⊎ (answer ≡ 70)))
+  pub whole : answer ≡ status_of (run_shows p).end → AddsAll before (lines_of (run_shows p).trace) after
   pub part : AddsPart before (lines_of (run_shows p).trace) after
 
 -- FAULT LINES

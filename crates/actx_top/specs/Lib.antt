@@ -8,6 +8,7 @@ pub mod Meaning
 pub mod Headline
 pub mod Answers
 pub mod FaultView
+pub mod Ending
 pub mod View
 pub mod MachineView
 pub mod Related

@@ -1,6 +1,7 @@
 //! The top call and what it stands on: the step table, the emitted program and both runs.
 #![tactic(auto)]
 
+mod execute;
 mod fault;
 mod laws;
 mod line;
@@ -10,5 +11,7 @@ mod operators;
 mod render;
 mod scope;
 mod sound;
+mod top;
 
-pub use laws::source_and_target_match;
+pub use laws::{emitted_is_spelled, source_and_target_match};
+pub use top::actx;
