@@ -53,7 +53,7 @@ all_digits (c ∷ cs) h = All-cons (λ c. IsTrue (is_digit c)) c cs (value_digit
 leading : (n : ℕ) → n < 2 ^ 64 → get_or (decimal n) 0 0 ≡ 48 → length (decimal n) ≤ 1
 leading n h z =
     elim (cases_lt 0 n) [
-        inl lt ↦ absurd (let f = first_decimal n lt h in omega arith)
+      | inl lt ↦ absurd (let f = first_decimal n lt h in omega arith)
       | inr le ↦ let e : decimal n ≡ (48 + n) ∷ [] = decimal_digit n (omega arith) in let l = ap length e in omega arith
     ]
 
