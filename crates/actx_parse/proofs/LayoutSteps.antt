@@ -1,5 +1,5 @@
 -- The text of tokens, one after another.
-use Rattle.std.proofs.Common.{◌≡◌, ℕ, suc, ◌+◌, ◌<◌, inl, inr, Bool, true, false, cond, List, [], ◌∷◌, ◌++◌, length, get_or, drop, refl, sym, ◌∙◌, ap, subst, arith, eqb, lit<, encode_utf8}
+use Rattle.std.proofs.Common.{◌≡◌, ℕ, ◌+◌, ◌<◌, inl, inr, Bool, false, cond, List, [], ◌∷◌, ◌++◌, length, get_or, drop, refl, sym, ◌∙◌, ap, subst, arith, eqb, lit<, encode_utf8}
 use Rattle.std.proofs.lemmas.Bool.{cases_eq, eq-eqb, ne_eqb, cond-false, cond_both}
 use Rattle.std.proofs.lemmas.List.{drop_more, length-drop, append_assoc}
 use Rattle.actx_parse.specs.declared.token.TokenKind.{TokenKind}
