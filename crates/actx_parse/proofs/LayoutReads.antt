@@ -1,22 +1,21 @@
 -- What is printed is read again.
-use Rattle.std.proofs.Common.{◌≡◌, ◌≢◌, ◌⊎◌, inl, inr, ℕ, suc, ◌+◌, ◌-◌, ◌<◌, ◌≤◌, ◌^◌, Bool, true, false, cond, ◌||◌, List, [], ◌∷◌, ◌++◌, length, get_or, refl, sym, ◌∙◌, ap, subst, arith, IsTrue, All, Contains, eqb, leb, flat_map, decimal, encode_utf8, lit<, lit≤}
+use Rattle.std.proofs.Common.{◌≡◌, inl, inr, ℕ, ◌+◌, ◌<◌, ◌≤◌, ◌^◌, Bool, true, false, cond, List, [], ◌∷◌, ◌++◌, length, get_or, refl, sym, ◌∙◌, ap, subst, arith, IsTrue, All, Contains, flat_map, decimal, encode_utf8}
 use Rattle.std.specs.List.{list_all}
 use Rattle.std.specs.Str.Parse.{digits_value, AllDigits}
 use Rattle.std.specs.Char.{digit_value}
-use Rattle.std.proofs.lemmas.Bool.{false≢true, true≢false, both_ways, cond-false, cond-true, cond_both, cases_lt}
-use Rattle.std.proofs.lemmas.List.{append_assoc, get_or_at, get_or_append_left, length-append}
+use Rattle.std.proofs.lemmas.Bool.{both_ways, cond-true, cond_both, cases_lt}
+use Rattle.std.proofs.lemmas.List.{get_or_at, get_or_append_left, length-append}
 use Rattle.std.proofs.lemmas.List.Elements.{All-cons, All-head, All-tail, All-nil, All-weaker, All-contains, All-from_recursion}
 use Rattle.std.proofs.lemmas.List.Sums.{AllPass-from_list_all}
 use Rattle.std.proofs.lemmas.Str.Ascii.{encode_ascii}
-use Rattle.std.proofs.lemmas.Fmt.{decimal_is_IsNumeral, decimal_digit, first_decimal, decimal_nonempty}
-use Rattle.actx_parse.specs.declared.token.Keyword.{Keyword}
+use Rattle.std.proofs.lemmas.Fmt.{decimal_is_IsNumeral, decimal_digit, first_decimal}
 use Rattle.actx_parse.specs.declared.token.Sign.{Sign}
 use Rattle.actx_parse.specs.declared.token.Sign.TheVariants as s
 use Rattle.actx_parse.specs.declared.token.TokenKind.{TokenKind}
 use Rattle.actx_parse.specs.declared.token.TokenKind.TheVariants as t
-use Rattle.actx_parse.specs.Lexical.{is_blank, is_digit, is_name_start, is_name_part, is_text_char, AllPass, keyword_text, sign_text, refused_signs, greatest_number, IsDecimal, IsName, IsToken, name_token, keyword_token, number_token, text_token, sign_token, IsLexeme, IsLongest, begins_free, MayFollow, Tokens, at_end, at_blank, at_token, HasForm}
+use Rattle.actx_parse.specs.Lexical.{is_blank, is_digit, is_name_part, is_text_char, AllPass, keyword_text, sign_text, refused_signs, greatest_number, IsToken, name_token, keyword_token, number_token, text_token, sign_token, IsLexeme, IsLongest, begins_free, MayFollow, Tokens, at_end, at_blank, at_token, HasForm}
 use Rattle.actx_parse.specs.Layout.{unit_text, token_text, ends_line, gap_after, layout}
-use Rattle.actx_parse.proofs.LexKinds.{Class, word, digit, quote, blank, mark, class_of, kind_class, token_class, nonempty_token, refused_class, reading}
+use Rattle.actx_parse.proofs.LexKinds.{Class, word, digit, mark, class_of, token_class, nonempty_token, reading}
 use Rattle.actx_parse.proofs.LexRuns.{name_parts, word_lexeme}
 use Rattle.actx_parse.proofs.LexNumbers.{decimal_from, number_lexeme, text_longest}
 use Rattle.actx_parse.proofs.LexSigns.{mark_reading}
@@ -53,7 +52,7 @@ all_digits (c ∷ cs) h = All-cons (λ c. IsTrue (is_digit c)) c cs (value_digit
 leading : (n : ℕ) → n < 2 ^ 64 → get_or (decimal n) 0 0 ≡ 48 → length (decimal n) ≤ 1
 leading n h z =
     elim (cases_lt 0 n) [
-        inl lt ↦ absurd (let f = first_decimal n lt h in omega arith)
+      | inl lt ↦ absurd (let f = first_decimal n lt h in omega arith)
       | inr le ↦ let e : decimal n ≡ (48 + n) ∷ [] = decimal_digit n (omega arith) in let l = ap length e in omega arith
     ]
 

@@ -1,5 +1,5 @@
 -- The text of tokens, one after another.
-use Rattle.std.proofs.Common.{◌≡◌, ℕ, suc, ◌+◌, ◌<◌, inl, inr, Bool, true, false, cond, List, [], ◌∷◌, ◌++◌, length, get_or, drop, refl, sym, ◌∙◌, ap, subst, arith, eqb, lit<, encode_utf8}
+use Rattle.std.proofs.Common.{◌≡◌, ℕ, ◌+◌, ◌<◌, inl, inr, Bool, false, cond, List, [], ◌∷◌, ◌++◌, length, get_or, drop, refl, sym, ◌∙◌, ap, subst, arith, eqb, lit<, encode_utf8}
 use Rattle.std.proofs.lemmas.Bool.{cases_eq, eq-eqb, ne_eqb, cond-false, cond_both}
 use Rattle.std.proofs.lemmas.List.{drop_more, length-drop, append_assoc}
 use Rattle.actx_parse.specs.declared.token.TokenKind.{TokenKind}
@@ -20,7 +20,7 @@ last_is : (ts : List TokenKind) (i : ℕ) → i < length ts → eqb (length (dro
 last_is ts i lt =
     let long = length-drop (i + 1) ts in
     elim (cases_eq (i + 1) (length ts)) [
-        inl e ↦ eq-eqb (length (drop (i + 1) ts)) 0 (omega arith) ∙ sym (eq-eqb (i + 1) (length ts) e)
+      | inl e ↦ eq-eqb (length (drop (i + 1) ts)) 0 (omega arith) ∙ sym (eq-eqb (i + 1) (length ts) e)
       | inr n ↦ ne_eqb (length (drop (i + 1) ts)) 0 (λ e. n (omega arith)) ∙ sym (ne_eqb (i + 1) (length ts) n)
     ]
 
@@ -31,7 +31,7 @@ left_more whole done ts i d lt e =
     let rest = drop (i + 1) ts in
     let gap = cond (eqb (i + 1) (length ts)) 10 (gap_after t) in
     let next : left (drop i ts) ≡ token_text t ++ gap ∷ left rest =
-        ap left (drop_more ts i d lt) ∙ left_one t rest ∙ ap (λ b. token_text t ++ cond b 10 (gap_after t) ∷ left rest) (last_is ts i lt) in
+    ap left (drop_more ts i d lt) ∙ left_one t rest ∙ ap (λ b. token_text t ++ cond b 10 (gap_after t) ∷ left rest) (last_is ts i lt) in
     append_assoc (done ++ token_text t) (gap ∷ []) (left rest) ∙ append_assoc done (token_text t) (gap ∷ left rest) ∙ ap (λ v. done ++ v) (sym next) ∙ e
 
 gap_small : (b : Bool) (t : TokenKind) → cond b 10 (gap_after t) < 128

@@ -122,5 +122,9 @@ fn hex_digit(value: u16) -> char
     ensures ascii { result < 128 }
 {
     let value = value as u8;
-    char::from(if value < 10 { b'0' + value } else { b'a' - 10 + value })
+    char::from(if value < 10 {
+        b'0' + value
+    } else {
+        b'a' - 10 + value
+    })
 }

@@ -296,3 +296,6 @@ fn is_text_char(byte: u8) -> bool
 {
     b' ' <= byte && byte <= b'~' && byte != b'"' && byte != b'\\'
 }
+
+#[cfg(test)]
+mod tests;
