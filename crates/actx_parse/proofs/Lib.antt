@@ -7,3 +7,5 @@ pub mod ParseStep
 pub mod ParseSound
 pub mod ParseStack
 pub mod ParseRun
+pub mod SpellLasts
+pub mod SpellAgain

@@ -44,3 +44,8 @@ spell_stmt (Value e) = spell e 1 ++ t.Sign s.Semicolon ∷ []
 abbrev pub spell_program : Stmts → List TokenKind
 spell_program end = []
 spell_program (next st ss) = spell_stmt st ++ spell_program ss
+
+-- what stands before an item of a list
+abbrev pub comma_unless : Bool → List TokenKind
+comma_unless true = []
+comma_unless false = t.Sign s.Comma ∷ []

@@ -1,8 +1,10 @@
 //! Tokens, trees and both grammars: from a text to its tree and back, as `const a = 1;` is a program of one item.
 #![tactic(auto)]
 
+mod copy;
 pub mod name;
 pub mod parse;
 pub mod side;
+pub mod spell;
 pub mod token;
 pub mod tree;

@@ -8,6 +8,7 @@ ghost use Rattle.actx_parse.specs.View.{program_view};
 ghost use Rattle.actx_parse.specs.declared.parse.ParseFault.TheVariants as fault;
 
 mod behind;
+pub mod level;
 mod machine;
 mod operand;
 mod state;
