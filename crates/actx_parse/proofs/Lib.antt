@@ -9,3 +9,4 @@ pub mod ParseStack
 pub mod ParseRun
 pub mod SpellLasts
 pub mod SpellAgain
+pub mod SpellAll

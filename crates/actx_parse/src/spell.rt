@@ -2,7 +2,7 @@
 
 ghost use Rattle.std.specs.Prelude.{◌≡◌, ◌++◌, ◌∷◌, [], IfOk, OnOk, codes};
 ghost use Rattle.actx_parse.specs.Grammar.{sign_of};
-ghost use Rattle.actx_parse.specs.Spell.{comma_unless, spell, spell_items, spell_list, spell_program, spell_stmt};
+ghost use Rattle.actx_parse.specs.Spell.{SpelledAgain, SpelledInForm, comma_unless, spell, spell_items, spell_list, spell_program, spell_stmt};
 ghost use Rattle.actx_parse.specs.View.{expr_view, exprs_view, items_view, program_view, stmt_view};
 
 use crate::name::Name;
@@ -169,4 +169,18 @@ pub fn spell(alloc: Global, program: &Program) -> Result<Vec<TokenKind>, NoMemor
         spell_stmt(alloc, &mut out, stmt)?;
     }
     Ok(out)
+}
+
+/// A law: a program that some tokens spell is spelled by its own tokens too, within the same depth.
+///
+/// So what is parsed is parsed again from them, as the same program.
+pub fn spelled_again()
+    ensures { SpelledAgain }
+{
+}
+
+/// A law: the tokens of a program that some tokens spell have their kinds' forms.
+pub fn spelled_in_form()
+    ensures { SpelledInForm }
+{
 }
