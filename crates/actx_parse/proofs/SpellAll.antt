@@ -54,6 +54,7 @@ items_spelled {side} {d} no_items y p a = absurd (none_spelled p refl)
     none_last : (is : Items) (x : List ℕ) (e : Expr) → with_item is x e ≡ no_items → ⊥
     none_last no_items x e q = cc
     none_last (item z f is) x e q = cc
+
     none_spelled : {is : Items} {z : List TokenKind} → SpellsItems side d is z → is ≡ no_items → ⊥
     none_spelled (sp_item h p) q = cc
     none_spelled (sp_items {is = is} {x = x} {e = e} ps h p) q = none_last is x e q
@@ -109,8 +110,8 @@ mutual
       let rest : List TokenKind = x ++ t.Sign g.CloseParen ∷ [] in
       formed (t.Name (codes "console")) (t.Sign g.Dot ∷ t.Name (codes "log") ∷ t.Sign g.OpenParen ∷ rest) console_name
       (formed (t.Sign g.Dot) (t.Name (codes "log") ∷ t.Sign g.OpenParen ∷ rest) tt
-        (formed (t.Name (codes "log")) (t.Sign g.OpenParen ∷ rest) log_name
-          (formed (t.Sign g.OpenParen) rest tt (both x (t.Sign g.CloseParen ∷ []) (forms_arguments p) (single (t.Sign g.CloseParen) tt)))))
+      (formed (t.Name (codes "log")) (t.Sign g.OpenParen ∷ rest) log_name
+      (formed (t.Sign g.OpenParen) rest tt (both x (t.Sign g.CloseParen ∷ []) (forms_arguments p) (single (t.Sign g.CloseParen) tt)))))
 
   forms_arguments : {side : Side} {d : ℕ} {es : Exprs} {x : List TokenKind} → SpellsArguments side d es x → All HasForm x
   forms_arguments (sp_no_arguments) = All-nil HasForm

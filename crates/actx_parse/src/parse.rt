@@ -12,6 +12,8 @@ pub mod level;
 mod machine;
 mod operand;
 mod state;
+#[cfg(test)]
+mod tests;
 mod word;
 
 use self::machine::run;
@@ -80,5 +82,4 @@ pub fn parse_plain(alloc: Global, tokens: &[TokenKind]) -> Result<Program, Parse
 /// A law: no token list spells two programs.
 pub fn one_tree()
     ensures { OneTree }
-{
-}
+{}

@@ -53,12 +53,7 @@ fn put_console_log(alloc: Global, out: &mut Vec<TokenKind>) -> Result<(), NoMemo
 }
 
 #[cycle(spell)]
-fn spell_expr(
-    alloc: Global,
-    out: &mut Vec<TokenKind>,
-    e: &Expr,
-    level: u8,
-) -> Result<(), NoMemory>
+fn spell_expr(alloc: Global, out: &mut Vec<TokenKind>, e: &Expr, level: u8) -> Result<(), NoMemory>
     ensures { OnOk result (out.new.items ≡ out.old.items ++ spell (expr_view e.now) level) }
 {
     match e {
@@ -132,7 +127,11 @@ fn spell_item(alloc: Global, out: &mut Vec<TokenKind>, item: &ConstItem) -> Resu
     spell_expr(alloc, out, &item.value, 1)
 }
 
-fn spell_items(alloc: Global, out: &mut Vec<TokenKind>, items: &Vec<ConstItem>) -> Result<(), NoMemory>
+fn spell_items(
+    alloc: Global,
+    out: &mut Vec<TokenKind>,
+    items: &Vec<ConstItem>,
+) -> Result<(), NoMemory>
     ensures { OnOk result (out.new.items ≡ out.old.items ++ spell_items (items_view items.now.items)) }
 {
     let mut first = true;
@@ -176,11 +175,9 @@ pub fn spell(alloc: Global, program: &Program) -> Result<Vec<TokenKind>, NoMemor
 /// So what is parsed is parsed again from them, as the same program.
 pub fn spelled_again()
     ensures { SpelledAgain }
-{
-}
+{}
 
 /// A law: the tokens of a program that some tokens spell have their kinds' forms.
 pub fn spelled_in_form()
     ensures { SpelledInForm }
-{
-}
+{}
