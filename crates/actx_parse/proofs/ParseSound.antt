@@ -31,6 +31,7 @@ name_viable side o s x p h n = pick (same_text x (codes "console")) refl
   where
     read : is_reference side x ≡ true → After side (go (have o (Named x) (leaf_reach s)) s) (p ++ t.Name x ∷ [])
     read q = leaf_held p h (sp_name (reference_is side x n q))
+
     pick : (b : Bool) → same_text x (codes "console") ≡ b → After side (cond b (go (dot_next o) s) (cond (is_reference side x) (go (have o (Named x) (leaf_reach s)) s) refuse)) (p ++ t.Name x ∷ [])
     pick true q =
         let same : codes "console" ≡ x = sym ((same_decides x (codes "console")).0 q) in
@@ -51,7 +52,7 @@ operand_viable side o s (t.Sign sign) p h f = sign_operand side o s sign p h
 begin_viable : (side : Side) (o : Owner) (s : List Frame) (u : TokenKind) (p : List TokenKind) → Opens side o s p → HasForm u → After side (begin_operand side o s u) (p ++ u ∷ [])
 begin_viable side o s u p h f =
     chosen side (fits side (leaf_reach s) && has_room side s) (operand side o s u) (p ++ u ∷ []) (λ w.
-      operand_viable side o s u p (record { opens = h; deep = fitting side (leaf_reach s) (and_left (fits side (leaf_reach s)) (has_room side s) w); room = and_right (fits side (leaf_reach s)) (has_room side s) w }) f)
+    operand_viable side o s u p (record { opens = h; deep = fitting side (leaf_reach s) (and_left (fits side (leaf_reach s)) (has_room side s) w); room = and_right (fits side (leaf_reach s)) (has_room side s) w }) f)
 
 close_list_viable : (side : Side) (o : Owner) (s : List Frame) (p : List TokenKind) → Opens side o s p → After side (close_list o s) (p ++ t.Sign g.CloseParen ∷ [])
 close_list_viable side o (in_log es j ∷ s) p h = v_have (log_done h)
@@ -115,9 +116,9 @@ dot_viable side o s (t.Text z) p h = tt
 log_viable : (side : Side) (o : Owner) (s : List Frame) (u : TokenKind) (p : List TokenKind) → Place side o s p → After side (at_log o s u) ((p ++ t.Name (codes "console") ∷ t.Sign g.Dot ∷ []) ++ u ∷ [])
 log_viable side o s (t.Name x) p h =
     chosen side (same_text x (codes "log")) (go (open_next o) s) ((p ++ t.Name (codes "console") ∷ t.Sign g.Dot ∷ []) ++ t.Name x ∷ []) (λ w.
-      let same : codes "log" ≡ x = sym ((same_decides x (codes "log")).0 w) in
-      let group : p ++ t.Name (codes "console") ∷ t.Sign g.Dot ∷ t.Name x ∷ [] ≡ (p ++ t.Name (codes "console") ∷ t.Sign g.Dot ∷ []) ++ t.Name x ∷ [] = simp append_assoc in
-      viable_along (ap (λ z. p ++ t.Name (codes "console") ∷ t.Sign g.Dot ∷ t.Name z ∷ []) same ∙ group) (v_open h))
+    let same : codes "log" ≡ x = sym ((same_decides x (codes "log")).0 w) in
+    let group : p ++ t.Name (codes "console") ∷ t.Sign g.Dot ∷ t.Name x ∷ [] ≡ (p ++ t.Name (codes "console") ∷ t.Sign g.Dot ∷ []) ++ t.Name x ∷ [] = simp append_assoc in
+    viable_along (ap (λ z. p ++ t.Name (codes "console") ∷ t.Sign g.Dot ∷ t.Name z ∷ []) same ∙ group) (v_open h))
 log_viable side o s (t.Sign z) p h = tt
 log_viable side o s (t.Keyword z) p h = tt
 log_viable side o s (t.Number z) p h = tt

@@ -57,9 +57,9 @@ none_allowed Plain = tt
 operator_viable : (side : Side) (o : Owner) (op : BinaryOp) (q : Settled) (p : List TokenKind) → SettledAt side (level_of op) o q p → After side (operator side o op q) (p ++ t.Sign (sign_of op) ∷ [])
 operator_viable side o op (settled e r s) p h =
     chosen side (fits side (suc r)) (go (need o) (in_binary op e (suc r) ∷ s)) (p ++ t.Sign (sign_of op) ∷ []) (λ w.
-      let deep : suc r ≤ deepest side = fitting side (suc r) w in
-      let low : level_in s ≤ level_of op = omega (arith, level_some op, h.3) in
-      v_need (opens_along (ap (λ z. z ++ t.Sign (sign_of op) ∷ []) (sym h.4.all)) (op_binary {n = h.4.height} low h.4.opens h.4.room (deeper h.4.spells (omega arith) h.1) (omega (arith, h.4.reach)) deep)))
+    let deep : suc r ≤ deepest side = fitting side (suc r) w in
+    let low : level_in s ≤ level_of op = omega (arith, level_some op, h.3) in
+    v_need (opens_along (ap (λ z. z ++ t.Sign (sign_of op) ∷ []) (sym h.4.all)) (op_binary {n = h.4.height} low h.4.opens h.4.room (deeper h.4.spells (omega arith) h.1) (omega (arith, h.4.reach)) deep)))
 
 -- PARENTHESES
 paren_closed : {side : Side} {o : Owner} {s : List Frame} {q x : List TokenKind} {e : Expr} {m r : ℕ} → Opens side o (in_paren ∷ s) q → Spells side 1 m e x → m + suc (suc (length s)) ≤ r → r ≤ deepest side

@@ -4,9 +4,11 @@
 pub mod emit;
 pub mod lex;
 pub mod check;
+mod copy;
 pub mod name;
 pub mod parse;
 pub mod side;
+pub mod spell;
 pub mod token;
 pub mod tree;
 mod words;

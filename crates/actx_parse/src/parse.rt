@@ -8,9 +8,12 @@ ghost use Rattle.actx_parse.specs.View.{program_view};
 ghost use Rattle.actx_parse.specs.declared.parse.ParseFault.TheVariants as fault;
 
 mod behind;
+pub mod level;
 mod machine;
 mod operand;
 mod state;
+#[cfg(test)]
+mod tests;
 mod word;
 
 use self::machine::run;
@@ -79,5 +82,4 @@ pub fn parse_plain(alloc: Global, tokens: &[TokenKind]) -> Result<Program, Parse
 /// A law: no token list spells two programs.
 pub fn one_tree()
     ensures { OneTree }
-{
-}
+{}

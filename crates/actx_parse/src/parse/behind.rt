@@ -8,6 +8,7 @@ ghost use Rattle.actx_parse.specs.Tree.{Binary, Built};
 ghost use Rattle.actx_parse.specs.View.{expr_view, exprs_view, stmt_view};
 ghost use Rattle.actx_parse.specs.declared.tree.Form.TheVariants.{Log};
 
+use super::level::level_of;
 use super::operand::{deepest, log_form};
 use super::state::{Frame, Mode, Operand, Owner, Step};
 use crate::side::Side;
@@ -16,16 +17,6 @@ use crate::tree::{BinaryOp, ConstItem, Expr, Stmt};
 use actx_data::NoMemory;
 use std::alloc::Global;
 use std::cmp::max;
-
-fn level_of(op: BinaryOp) -> u8
-    ensures { result ≡ level_of op }
-{
-    match op {
-        BinaryOp::Add => 7,
-        BinaryOp::Sub => 7,
-        BinaryOp::Mul => 8,
-    }
-}
 
 fn operation(alloc: Global, op: BinaryOp, left: Expr, right: Expr) -> Result<Expr, NoMemory>
     ensures { IfOk result (λ e. expr_view e ≡ Binary op (expr_view left) (expr_view right)) }
