@@ -1,1 +1,8 @@
 pub mod CheckRules
+pub mod LexKinds
+pub mod LexOnce
+pub mod LexRuns
+pub mod LexNumbers
+pub mod LexSigns
+pub mod LayoutSteps
+pub mod LayoutReads

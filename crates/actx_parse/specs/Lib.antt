@@ -1,4 +1,5 @@
 pub mod Lexical
+pub mod Lexeme
 pub mod Tree
 pub mod Grammar
 pub mod Static

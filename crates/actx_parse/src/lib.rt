@@ -2,7 +2,10 @@
 #![tactic(auto)]
 
 pub mod check;
+pub mod emit;
+pub mod lex;
 pub mod name;
 pub mod side;
 pub mod token;
 pub mod tree;
+mod words;

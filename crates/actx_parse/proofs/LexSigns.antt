@@ -1,0 +1,461 @@
+-- Signs: the sign that the code finds is the longest punctuator there, and where it finds none no sign begins.
+use Rattle.std.proofs.Common.{◌≡◌, ◌≢◌, ◌⊎◌, inl, inr, ℕ, zero, suc, ◌-◌, ◌<◌, ◌≤◌, true, false, cond, ◌&&◌, List, [], ◌∷◌, ◌++◌, Option, Some, None, length, get_or, take, drop, refl, sym, ◌∙◌, ap, subst, arith, Contains, eqb, lit<, lit≤}
+use Rattle.std.proofs.lemmas.Bool.{cond_both, cases_Bool, cases_lt, eqb-true, ne_eqb, and_parts, cond-true, cond-false}
+use Rattle.std.proofs.lemmas.List.{take-append-drop, append_assoc, length-append, get_or-take, get_or_past}
+use Rattle.std.proofs.lemmas.List.Elements.{All-from_recursion, All-contains}
+use Rattle.actx_parse.specs.declared.token.Sign.{Sign}
+use Rattle.actx_parse.specs.declared.token.Sign.TheVariants as s
+use Rattle.actx_parse.specs.declared.token.TokenKind.{TokenKind}
+use Rattle.actx_parse.specs.declared.token.TokenKind.TheVariants as t
+use Rattle.std.specs.Str.Parse.{digits_value}
+use Rattle.actx_parse.specs.Lexical.{is_blank, is_digit, is_name_start, sign_text, refused_signs, IsToken, sign_token, IsLexeme, IsLongest}
+use Rattle.actx_parse.specs.Lexeme.{Begins, longest_sign, dot_sign, question_sign, equals_sign, plus_sign, minus_sign, star_sign, not_sign, less_sign, more_sign, and_sign, or_sign}
+use Rattle.actx_parse.proofs.LexKinds.{word, digit, quote, blank, mark, class_of, kind_class, token_class, Reading, r_name, r_keyword, r_number, r_text, r_sign, reading, sign_some}
+use Rattle.actx_parse.proofs.LexOnce.{begins_class, no_blank_kind}
+
+-- the sign that a text begins with
+abbrev pub sign_of : List ℕ → Option Sign
+sign_of text = longest_sign (get_or text 0 0) (get_or text 1 0) (get_or text 2 0)
+
+-- WHAT IS FOUND STANDS THERE
+abbrev Reads : ℕ → ℕ → ℕ → Option Sign → Type 0
+Reads a b c None = Unit {0}
+Reads a b c (Some s) = sign_text s ≡ take (length (sign_text s)) (a ∷ b ∷ c ∷ [])
+
+one : (x a : ℕ) → eqb a x ≡ true → x ∷ [] ≡ a ∷ []
+one x a e = ap (λ v. v ∷ []) (sym (eqb-true a x e))
+
+two : (x y a b : ℕ) → eqb a x ≡ true → eqb b y ≡ true → x ∷ y ∷ [] ≡ a ∷ b ∷ []
+two x y a b e f = let p = eqb-true a x e in let q = eqb-true b y f in cc
+
+three : (x y z a b c : ℕ) → eqb a x ≡ true → (eqb b y && eqb c z) ≡ true → x ∷ y ∷ z ∷ [] ≡ a ∷ b ∷ c ∷ []
+three x y z a b c e f = let p = eqb-true a x e in let q = eqb-true b y (and_parts (eqb b y) (eqb c z) f).0 in let r = eqb-true c z (and_parts (eqb b y) (eqb c z) f).1 in cc
+
+dot_reads : (a b c : ℕ) → eqb a 46 ≡ true → Reads a b c (dot_sign b c)
+dot_reads a b c e = cond_both (eqb b 46 && eqb c 46) None _ (Reads a b c) (λ f. tt) (λ _. one 46 a e)
+
+question_reads : (a b c : ℕ) → eqb a 63 ≡ true → Reads a b c (question_sign b c)
+question_reads a b c e = cond_both (eqb b 46) None _ (Reads a b c) (λ f. tt) (λ _. cond_both (eqb b 63 && eqb c 61) None _ (Reads a b c) (λ f. tt) (λ _. cond_both (eqb b 63) (Some s.Coalesce) _ (Reads a b c) (λ f. two 63 63 a b e f) (λ _. one 63 a e)))
+
+equals_reads : (a b c : ℕ) → eqb a 61 ≡ true → Reads a b c (equals_sign b c)
+equals_reads a b c e = cond_both (eqb b 61 && eqb c 61) (Some s.Same) _ (Reads a b c) (λ f. three 61 61 61 a b c e f) (λ _. cond_both (eqb b 61) None _ (Reads a b c) (λ f. tt) (λ _. cond_both (eqb b 62) (Some s.Arrow) _ (Reads a b c) (λ f. two 61 62 a b e f) (λ _. one 61 a e)))
+
+plus_reads : (a b c : ℕ) → eqb a 43 ≡ true → Reads a b c (plus_sign b)
+plus_reads a b c e = cond_both (eqb b 61) (Some s.AddAssign) _ (Reads a b c) (λ f. two 43 61 a b e f) (λ _. cond_both (eqb b 43) (Some s.Increment) _ (Reads a b c) (λ f. two 43 43 a b e f) (λ _. one 43 a e))
+
+minus_reads : (a b c : ℕ) → eqb a 45 ≡ true → Reads a b c (minus_sign b)
+minus_reads a b c e = cond_both (eqb b 61) (Some s.SubAssign) _ (Reads a b c) (λ f. two 45 61 a b e f) (λ _. cond_both (eqb b 45) (Some s.Decrement) _ (Reads a b c) (λ f. two 45 45 a b e f) (λ _. one 45 a e))
+
+star_reads : (a b c : ℕ) → eqb a 42 ≡ true → Reads a b c (star_sign b)
+star_reads a b c e = cond_both (eqb b 61) (Some s.MulAssign) _ (Reads a b c) (λ f. two 42 61 a b e f) (λ _. cond_both (eqb b 42) None _ (Reads a b c) (λ f. tt) (λ _. one 42 a e))
+
+not_reads : (a b c : ℕ) → eqb a 33 ≡ true → Reads a b c (not_sign b c)
+not_reads a b c e = cond_both (eqb b 61 && eqb c 61) (Some s.NotSame) _ (Reads a b c) (λ f. three 33 61 61 a b c e f) (λ _. cond_both (eqb b 61) None _ (Reads a b c) (λ f. tt) (λ _. one 33 a e))
+
+less_reads : (a b c : ℕ) → eqb a 60 ≡ true → Reads a b c (less_sign b)
+less_reads a b c e = cond_both (eqb b 60) None _ (Reads a b c) (λ f. tt) (λ _. cond_both (eqb b 61) (Some s.LessSame) _ (Reads a b c) (λ f. two 60 61 a b e f) (λ _. one 60 a e))
+
+more_reads : (a b c : ℕ) → eqb a 62 ≡ true → Reads a b c (more_sign b)
+more_reads a b c e = cond_both (eqb b 62) None _ (Reads a b c) (λ f. tt) (λ _. cond_both (eqb b 61) (Some s.MoreSame) _ (Reads a b c) (λ f. two 62 61 a b e f) (λ _. one 62 a e))
+
+and_reads : (a b c : ℕ) → eqb a 38 ≡ true → Reads a b c (and_sign b c)
+and_reads a b c e = cond_both (eqb b 38 && eqb c 61) None _ (Reads a b c) (λ f. tt) (λ _. cond_both (eqb b 38) (Some s.And) _ (Reads a b c) (λ f. two 38 38 a b e f) (λ _. tt))
+
+or_reads : (a b c : ℕ) → eqb a 124 ≡ true → Reads a b c (or_sign b c)
+or_reads a b c e = cond_both (eqb b 124 && eqb c 61) None _ (Reads a b c) (λ f. tt) (λ _. cond_both (eqb b 124) (Some s.Or) _ (Reads a b c) (λ f. two 124 124 a b e f) (λ _. tt))
+
+reads : (a b c : ℕ) → Reads a b c (longest_sign a b c)
+reads a b c =
+    cond_both (eqb a 123) (Some s.OpenBrace) _ (Reads a b c) (λ e. one 123 a e) (λ _.
+    cond_both (eqb a 125) (Some s.CloseBrace) _ (Reads a b c) (λ e. one 125 a e) (λ _.
+    cond_both (eqb a 40) (Some s.OpenParen) _ (Reads a b c) (λ e. one 40 a e) (λ _.
+    cond_both (eqb a 41) (Some s.CloseParen) _ (Reads a b c) (λ e. one 41 a e) (λ _.
+    cond_both (eqb a 91) (Some s.OpenBracket) _ (Reads a b c) (λ e. one 91 a e) (λ _.
+    cond_both (eqb a 93) (Some s.CloseBracket) _ (Reads a b c) (λ e. one 93 a e) (λ _.
+    cond_both (eqb a 44) (Some s.Comma) _ (Reads a b c) (λ e. one 44 a e) (λ _.
+    cond_both (eqb a 59) (Some s.Semicolon) _ (Reads a b c) (λ e. one 59 a e) (λ _.
+    cond_both (eqb a 58) (Some s.Colon) _ (Reads a b c) (λ e. one 58 a e) (λ _.
+    cond_both (eqb a 46) (dot_sign b c) _ (Reads a b c) (λ e. dot_reads a b c e) (λ _.
+    cond_both (eqb a 63) (question_sign b c) _ (Reads a b c) (λ e. question_reads a b c e) (λ _.
+    cond_both (eqb a 61) (equals_sign b c) _ (Reads a b c) (λ e. equals_reads a b c e) (λ _.
+    cond_both (eqb a 43) (plus_sign b) _ (Reads a b c) (λ e. plus_reads a b c e) (λ _.
+    cond_both (eqb a 45) (minus_sign b) _ (Reads a b c) (λ e. minus_reads a b c e) (λ _.
+    cond_both (eqb a 42) (star_sign b) _ (Reads a b c) (λ e. star_reads a b c e) (λ _.
+    cond_both (eqb a 33) (not_sign b c) _ (Reads a b c) (λ e. not_reads a b c e) (λ _.
+    cond_both (eqb a 60) (less_sign b) _ (Reads a b c) (λ e. less_reads a b c e) (λ _.
+    cond_both (eqb a 62) (more_sign b) _ (Reads a b c) (λ e. more_reads a b c e) (λ _.
+    cond_both (eqb a 38) (and_sign b c) _ (Reads a b c) (λ e. and_reads a b c e) (λ _.
+    cond_both (eqb a 124) (or_sign b c) _ (Reads a b c) (λ e. or_reads a b c e) (λ _.
+    tt))))))))))))))))))))
+
+reads_some : (a b c : ℕ) (s : Sign) → longest_sign a b c ≡ Some s → sign_text s ≡ take (length (sign_text s)) (a ∷ b ∷ c ∷ [])
+reads_some a b c s e = subst (Reads a b c) e (reads a b c)
+
+-- NOTHING LONGER STANDS THERE
+abbrev Fits : Option Sign → ℕ → Type 0
+Fits None n = Unit {0}
+Fits (Some s) n = n ≤ length (sign_text s)
+
+fits_one : (o : Option Sign) → Fits o 1
+fits_one None = tt
+fits_one (Some s) = sign_some s
+
+sign_fits : (r : Sign) (y : List ℕ) → Fits (sign_of (sign_text r ++ y)) (length (sign_text r))
+sign_fits s.OpenBrace y = fits_one (longest_sign 123 (get_or y 0 0) (get_or y 1 0))
+sign_fits s.CloseBrace y = fits_one (longest_sign 125 (get_or y 0 0) (get_or y 1 0))
+sign_fits s.OpenParen y = fits_one (longest_sign 40 (get_or y 0 0) (get_or y 1 0))
+sign_fits s.CloseParen y = fits_one (longest_sign 41 (get_or y 0 0) (get_or y 1 0))
+sign_fits s.OpenBracket y = fits_one (longest_sign 91 (get_or y 0 0) (get_or y 1 0))
+sign_fits s.CloseBracket y = fits_one (longest_sign 93 (get_or y 0 0) (get_or y 1 0))
+sign_fits s.Dot y = fits_one (longest_sign 46 (get_or y 0 0) (get_or y 1 0))
+sign_fits s.Comma y = fits_one (longest_sign 44 (get_or y 0 0) (get_or y 1 0))
+sign_fits s.Semicolon y = fits_one (longest_sign 59 (get_or y 0 0) (get_or y 1 0))
+sign_fits s.Colon y = fits_one (longest_sign 58 (get_or y 0 0) (get_or y 1 0))
+sign_fits s.Question y = fits_one (longest_sign 63 (get_or y 0 0) (get_or y 1 0))
+sign_fits s.Arrow y = lit≤ tt
+sign_fits s.Assign y = fits_one (longest_sign 61 (get_or y 0 0) (get_or y 1 0))
+sign_fits s.AddAssign y = lit≤ tt
+sign_fits s.SubAssign y = lit≤ tt
+sign_fits s.MulAssign y = lit≤ tt
+sign_fits s.Increment y = lit≤ tt
+sign_fits s.Decrement y = lit≤ tt
+sign_fits s.Plus y = fits_one (longest_sign 43 (get_or y 0 0) (get_or y 1 0))
+sign_fits s.Minus y = fits_one (longest_sign 45 (get_or y 0 0) (get_or y 1 0))
+sign_fits s.Star y = fits_one (longest_sign 42 (get_or y 0 0) (get_or y 1 0))
+sign_fits s.Not y = fits_one (longest_sign 33 (get_or y 0 0) (get_or y 1 0))
+sign_fits s.Less y = fits_one (longest_sign 60 (get_or y 0 0) (get_or y 1 0))
+sign_fits s.LessSame y = lit≤ tt
+sign_fits s.More y = fits_one (longest_sign 62 (get_or y 0 0) (get_or y 1 0))
+sign_fits s.MoreSame y = lit≤ tt
+sign_fits s.Same y = lit≤ tt
+sign_fits s.NotSame y = lit≤ tt
+sign_fits s.And y = cond_both (eqb (get_or y 0 0) 61) None (Some s.And) (λ o. Fits o 2) (λ _. tt) (λ _. lit≤ tt)
+sign_fits s.Or y = cond_both (eqb (get_or y 0 0) 61) None (Some s.Or) (λ o. Fits o 2) (λ _. tt) (λ _. lit≤ tt)
+sign_fits s.Coalesce y = cond_both (eqb (get_or y 0 0) 61) None (Some s.Coalesce) (λ o. Fits o 2) (λ _. tt) (λ _. lit≤ tt)
+
+refused_fits : (v : List ℕ) → Contains refused_signs v → (y : List ℕ) → Fits (sign_of (v ++ y)) (length v)
+refused_fits v h = let P : List ℕ → Type 0 = λ v. (y : List ℕ) → Fits (sign_of (v ++ y)) (length v) in All-contains P refused_signs v (All-from_recursion P refused_signs (
+  λ y. tt,
+  (
+    λ y. tt,
+    (
+      λ y. cond_both (eqb (get_or y 0 0) 61) (Some s.Same) None (λ o. Fits o 2) (λ _. lit≤ tt) (λ _. tt),
+      (
+        λ y. cond_both (eqb (get_or y 0 0) 61) (Some s.NotSame) None (λ o. Fits o 2) (λ _. lit≤ tt) (λ _. tt),
+        (
+          λ y. tt,
+          (
+            λ y. fits_one (longest_sign 37 (get_or y 0 0) (get_or y 1 0)),
+            (
+              λ y. fits_one (longest_sign 38 (get_or y 0 0) (get_or y 1 0)),
+              (
+                λ y. fits_one (longest_sign 124 (get_or y 0 0) (get_or y 1 0)),
+                (
+                  λ y. fits_one (longest_sign 94 (get_or y 0 0) (get_or y 1 0)),
+                  (
+                    λ y. fits_one (longest_sign 126 (get_or y 0 0) (get_or y 1 0)),
+                    (
+                      λ y. tt,
+                      (
+                        λ y. tt,
+                        (
+                          λ y. tt,
+                          (
+                            λ y. tt,
+                            (
+                              λ y. tt,
+                              (
+                                λ y. tt,
+                                (
+                                  λ y. tt,
+                                  (
+                                    λ y. tt,
+                                    (
+                                      λ y. tt,
+                                      (
+                                        λ y. tt,
+                                        (
+                                          λ y. tt,
+                                          (
+                                            λ y. fits_one (longest_sign 47 (get_or y 0 0) (get_or y 1 0)),
+                                            (
+                                              λ y. tt,
+                                              (
+                                                λ y. tt,
+                                                (
+                                                  λ y. tt,
+                                                  (
+                                                    λ y. tt,
+                                                    (
+                                                      λ y. fits_one (longest_sign 35 (get_or y 0 0) (get_or y 1 0)),
+                                                      (
+                                                        λ y. fits_one (longest_sign 64 (get_or y 0 0) (get_or y 1 0)),
+                                                        (λ y. fits_one (longest_sign 96 (get_or y 0 0) (get_or y 1 0)), tt),
+                                                      ),
+                                                    ),
+                                                  ),
+                                                ),
+                                              ),
+                                            ),
+                                          ),
+                                        ),
+                                      ),
+                                    ),
+                                  ),
+                                ),
+                              ),
+                            ),
+                          ),
+                        ),
+                      ),
+                    ),
+                  ),
+                ),
+              ),
+            ),
+          ),
+        ),
+      ),
+    ),
+  ),
+)) h
+
+pub mark_reading : (j : TokenKind) (v : List ℕ) → kind_class j ≡ mark → Reading j v → (s : Sign) × (j ≡ t.Sign s) × (v ≡ sign_text s)
+mark_reading j v e (r_name p h) = let f : kind_class (t.Name v) ≡ mark = ap kind_class (sym p) ∙ e in cc
+mark_reading j v e (r_keyword q p h) = let f : kind_class (t.Keyword q) ≡ mark = ap kind_class (sym p) ∙ e in cc
+mark_reading j v e (r_number p h l) = let f : kind_class (t.Number (digits_value 10 v)) ≡ mark = ap kind_class (sym p) ∙ e in cc
+mark_reading j v e (r_text cs p h l) = let f : kind_class (t.Text cs) ≡ mark = ap kind_class (sym p) ∙ e in cc
+mark_reading j v e (r_sign s p h) = (s, p, h)
+
+lexeme_fits : (v : List ℕ) → IsLexeme v → class_of (get_or v 0 0) ≡ mark → (y : List ℕ) → Fits (sign_of (v ++ y)) (length v)
+lexeme_fits v (inl (j, h)) e y =
+    let r = mark_reading j v (sym (token_class h) ∙ e) (reading h) in
+    subst (λ u. Fits (sign_of (u ++ y)) (length u)) (sym r.2) (sign_fits r.0 y)
+lexeme_fits v (inr h) e y = refused_fits v h y
+
+some_more : (x : List ℕ) → x ≢ [] → 0 < length x
+some_more [] h = absurd (h refl)
+some_more (c ∷ cs) h = omega arith
+
+sign_first : (s : Sign) (x : List ℕ) → class_of (get_or (sign_text s ++ x) 0 0) ≡ mark
+sign_first s.OpenBrace x = refl
+sign_first s.CloseBrace x = refl
+sign_first s.OpenParen x = refl
+sign_first s.CloseParen x = refl
+sign_first s.OpenBracket x = refl
+sign_first s.CloseBracket x = refl
+sign_first s.Dot x = refl
+sign_first s.Comma x = refl
+sign_first s.Semicolon x = refl
+sign_first s.Colon x = refl
+sign_first s.Question x = refl
+sign_first s.Arrow x = refl
+sign_first s.Assign x = refl
+sign_first s.AddAssign x = refl
+sign_first s.SubAssign x = refl
+sign_first s.MulAssign x = refl
+sign_first s.Increment x = refl
+sign_first s.Decrement x = refl
+sign_first s.Plus x = refl
+sign_first s.Minus x = refl
+sign_first s.Star x = refl
+sign_first s.Not x = refl
+sign_first s.Less x = refl
+sign_first s.LessSame x = refl
+sign_first s.More x = refl
+sign_first s.MoreSame x = refl
+sign_first s.Same x = refl
+sign_first s.NotSame x = refl
+sign_first s.And x = refl
+sign_first s.Or x = refl
+sign_first s.Coalesce x = refl
+
+sign_longest : (s : Sign) (rest : List ℕ) → sign_of (sign_text s ++ rest) ≡ Some s → IsLongest (sign_text s) rest
+sign_longest s rest e x y cut some lexeme =
+    let first : class_of (get_or (sign_text s ++ x) 0 0) ≡ mark = sign_first s x in
+    let whole : sign_text s ++ rest ≡ (sign_text s ++ x) ++ y = ap (λ v. sign_text s ++ v) cut ∙ sym (append_assoc (sign_text s) x y) in
+    let fits : Fits (Some s) (length (sign_text s ++ x)) = subst (λ o. Fits o (length (sign_text s ++ x))) (ap sign_of (sym whole) ∙ e) (lexeme_fits (sign_text s ++ x) lexeme first y) in
+    omega (arith, fits, length-append (sign_text s) x, some_more x some)
+
+-- each sign is of three characters at most, and none is 0
+sign_small : (s : Sign) → length (sign_text s) ≤ 3
+sign_small s.OpenBrace = lit≤ tt
+sign_small s.CloseBrace = lit≤ tt
+sign_small s.OpenParen = lit≤ tt
+sign_small s.CloseParen = lit≤ tt
+sign_small s.OpenBracket = lit≤ tt
+sign_small s.CloseBracket = lit≤ tt
+sign_small s.Dot = lit≤ tt
+sign_small s.Comma = lit≤ tt
+sign_small s.Semicolon = lit≤ tt
+sign_small s.Colon = lit≤ tt
+sign_small s.Question = lit≤ tt
+sign_small s.Arrow = lit≤ tt
+sign_small s.Assign = lit≤ tt
+sign_small s.AddAssign = lit≤ tt
+sign_small s.SubAssign = lit≤ tt
+sign_small s.MulAssign = lit≤ tt
+sign_small s.Increment = lit≤ tt
+sign_small s.Decrement = lit≤ tt
+sign_small s.Plus = lit≤ tt
+sign_small s.Minus = lit≤ tt
+sign_small s.Star = lit≤ tt
+sign_small s.Not = lit≤ tt
+sign_small s.Less = lit≤ tt
+sign_small s.LessSame = lit≤ tt
+sign_small s.More = lit≤ tt
+sign_small s.MoreSame = lit≤ tt
+sign_small s.Same = lit≤ tt
+sign_small s.NotSame = lit≤ tt
+sign_small s.And = lit≤ tt
+sign_small s.Or = lit≤ tt
+sign_small s.Coalesce = lit≤ tt
+
+sign_last : (s : Sign) → 0 < get_or (sign_text s) (length (sign_text s) - 1) 0
+sign_last s.OpenBrace = lit< tt
+sign_last s.CloseBrace = lit< tt
+sign_last s.OpenParen = lit< tt
+sign_last s.CloseParen = lit< tt
+sign_last s.OpenBracket = lit< tt
+sign_last s.CloseBracket = lit< tt
+sign_last s.Dot = lit< tt
+sign_last s.Comma = lit< tt
+sign_last s.Semicolon = lit< tt
+sign_last s.Colon = lit< tt
+sign_last s.Question = lit< tt
+sign_last s.Arrow = lit< tt
+sign_last s.Assign = lit< tt
+sign_last s.AddAssign = lit< tt
+sign_last s.SubAssign = lit< tt
+sign_last s.MulAssign = lit< tt
+sign_last s.Increment = lit< tt
+sign_last s.Decrement = lit< tt
+sign_last s.Plus = lit< tt
+sign_last s.Minus = lit< tt
+sign_last s.Star = lit< tt
+sign_last s.Not = lit< tt
+sign_last s.Less = lit< tt
+sign_last s.LessSame = lit< tt
+sign_last s.More = lit< tt
+sign_last s.MoreSame = lit< tt
+sign_last s.Same = lit< tt
+sign_last s.NotSame = lit< tt
+sign_last s.And = lit< tt
+sign_last s.Or = lit< tt
+sign_last s.Coalesce = lit< tt
+
+front_of : (text : List ℕ) (n : ℕ) → n ≤ 3 → n ≤ length text → take n (get_or text 0 0 ∷ get_or text 1 0 ∷ get_or text 2 0 ∷ []) ≡ take n text
+front_of text zero small fits = refl
+front_of [] (suc n) small fits = absurd (omega arith)
+front_of (a ∷ text) (suc zero) small fits = refl
+front_of (a ∷ []) (suc (suc n)) small fits = absurd (omega arith)
+front_of (a ∷ b ∷ text) (suc (suc zero)) small fits = refl
+front_of (a ∷ b ∷ []) (suc (suc (suc n))) small fits = absurd (omega arith)
+front_of (a ∷ b ∷ c ∷ text) (suc (suc (suc zero))) small fits = refl
+front_of (a ∷ b ∷ c ∷ text) (suc (suc (suc (suc n)))) small fits = absurd (omega arith)
+
+at_three : (text : List ℕ) (i : ℕ) → i < 3 → get_or (get_or text 0 0 ∷ get_or text 1 0 ∷ get_or text 2 0 ∷ []) i 0 ≡ get_or text i 0
+at_three text zero lt = refl
+at_three text (suc zero) lt = refl
+at_three text (suc (suc zero)) lt = refl
+at_three text (suc (suc (suc i))) lt = absurd (omega arith)
+
+within : (text : List ℕ) (i : ℕ) → 0 < get_or text i 0 → i < length text
+within text i h =
+    elim (cases_lt i (length text)) [ inl lt ↦ lt | inr le ↦ absurd (let e = get_or_past text i 0 le in omega arith) ]
+
+sign_within : (text : List ℕ) (s : Sign) → sign_of text ≡ Some s → length (sign_text s) ≤ length text
+sign_within text s e =
+    let w = reads_some (get_or text 0 0) (get_or text 1 0) (get_or text 2 0) s e in
+    let n = length (sign_text s) in
+    let pos = sign_some s in
+    let small = sign_small s in
+    let last = sign_last s in
+    let same : get_or (sign_text s) (n - 1) 0 ≡ get_or text (n - 1) 0 =
+    ap (λ v. get_or v (n - 1) 0) w
+    ∙ get_or-take n (get_or text 0 0 ∷ get_or text 1 0 ∷ get_or text 2 0 ∷ []) (n - 1) 0 (omega arith)
+    ∙ at_three text (n - 1) (omega arith) in
+    let lt = within text (n - 1) (omega arith) in
+    omega arith
+
+pub sign_begins : (text : List ℕ) (s : Sign) → longest_sign (get_or text 0 0) (get_or text 1 0) (get_or text 2 0) ≡ Some s → Begins text (t.Sign s) (length (sign_text s))
+sign_begins text s e =
+    let n = length (sign_text s) in
+    let fits = sign_within text s e in
+    let front : sign_text s ≡ take n text = reads_some (get_or text 0 0) (get_or text 1 0) (get_or text 2 0) s e ∙ front_of text n (sign_small s) fits in
+    let whole : sign_text s ++ drop n text ≡ text = ap (λ v. v ++ drop n text) front ∙ take-append-drop n text in
+    record {
+      fits = fits;
+      token = subst (IsToken (t.Sign s)) front (sign_token s);
+      longest = subst (λ v. IsLongest v (drop n text)) front (sign_longest s (drop n text) (ap sign_of whole ∙ e));
+      follows = tt;
+    }
+
+-- WHERE NOTHING IS FOUND
+first_is : (rest : List ℕ) (x : ℕ) → 0 < x → eqb (get_or rest 0 0) x ≡ true → rest ≡ (x ∷ []) ++ drop 1 rest
+first_is [] x pos h = let e = eqb-true 0 x h in absurd (omega arith)
+first_is (c ∷ cs) x pos h = ap (λ v. v ∷ cs) (eqb-true c x h)
+
+second_is : (rest : List ℕ) (x y : ℕ) → 0 < x → 0 < y → (eqb (get_or rest 0 0) x && eqb (get_or rest 1 0) y) ≡ true → rest ≡ (x ∷ y ∷ []) ++ drop 2 rest
+second_is [] x y pos some h = let e = eqb-true 0 x (and_parts (eqb 0 x) (eqb 0 y) h).0 in absurd (omega arith)
+second_is (c ∷ []) x y pos some h = let e = eqb-true 0 y (and_parts (eqb c x) (eqb 0 y) h).1 in absurd (omega arith)
+second_is (c ∷ d ∷ cs) x y pos some h =
+    let e = eqb-true c x (and_parts (eqb c x) (eqb d y) h).0 in
+    let f = eqb-true d y (and_parts (eqb c x) (eqb d y) h).1 in
+    cc
+
+none_absurd : (s : Sign) → Some s ≡ None → ⊥
+none_absurd s e = cc
+
+-- a sign that stands here is found, unless a punctuator that is no sign is longer
+none_longer : (s : Sign) (rest : List ℕ) → sign_of (sign_text s ++ rest) ≡ None → IsLongest (sign_text s) rest → ⊥
+none_longer s.OpenBrace rest e l = cc
+none_longer s.CloseBrace rest e l = cc
+none_longer s.OpenParen rest e l = cc
+none_longer s.CloseParen rest e l = cc
+none_longer s.OpenBracket rest e l = cc
+none_longer s.CloseBracket rest e l = cc
+none_longer s.Dot rest e l = (cond_both (eqb (get_or rest 0 0) 46 && eqb (get_or rest 1 0) 46) None _ (λ o. o ≡ None → ⊥) (λ f. λ _. l (46 ∷ 46 ∷ []) (drop 2 rest) (second_is rest 46 46 (lit< tt) (lit< tt) f) (λ z. cc) (inr (0, lit< tt, refl))) (λ _. none_absurd s.Dot)) e
+none_longer s.Comma rest e l = cc
+none_longer s.Semicolon rest e l = cc
+none_longer s.Colon rest e l = cc
+none_longer s.Question rest e l = (cond_both (eqb (get_or rest 0 0) 46) None _ (λ o. o ≡ None → ⊥) (λ f. λ _. l (46 ∷ []) (drop 1 rest) (first_is rest 46 (lit< tt) f) (λ z. cc) (inr (1, lit< tt, refl))) (λ _. cond_both (eqb (get_or rest 0 0) 63 && eqb (get_or rest 1 0) 61) None _ (λ o. o ≡ None → ⊥) (λ f. λ _. l (63 ∷ 61 ∷ []) (drop 2 rest) (second_is rest 63 61 (lit< tt) (lit< tt) f) (λ z. cc) (inr (25, lit< tt, refl))) (λ _. cond_both (eqb (get_or rest 0 0) 63) (Some s.Coalesce) _ (λ o. o ≡ None → ⊥) (λ _. none_absurd s.Coalesce) (λ _. none_absurd s.Question)))) e
+none_longer s.Arrow rest e l = cc
+none_longer s.Assign rest e l = (cond_both (eqb (get_or rest 0 0) 61 && eqb (get_or rest 1 0) 61) (Some s.Same) _ (λ o. o ≡ None → ⊥) (λ _. none_absurd s.Same) (λ _. cond_both (eqb (get_or rest 0 0) 61) None _ (λ o. o ≡ None → ⊥) (λ f. λ _. l (61 ∷ []) (drop 1 rest) (first_is rest 61 (lit< tt) f) (λ z. cc) (inr (2, lit< tt, refl))) (λ _. cond_both (eqb (get_or rest 0 0) 62) (Some s.Arrow) _ (λ o. o ≡ None → ⊥) (λ _. none_absurd s.Arrow) (λ _. none_absurd s.Assign)))) e
+none_longer s.AddAssign rest e l = cc
+none_longer s.SubAssign rest e l = cc
+none_longer s.MulAssign rest e l = cc
+none_longer s.Increment rest e l = cc
+none_longer s.Decrement rest e l = cc
+none_longer s.Plus rest e l = (cond_both (eqb (get_or rest 0 0) 61) (Some s.AddAssign) _ (λ o. o ≡ None → ⊥) (λ _. none_absurd s.AddAssign) (λ _. cond_both (eqb (get_or rest 0 0) 43) (Some s.Increment) _ (λ o. o ≡ None → ⊥) (λ _. none_absurd s.Increment) (λ _. none_absurd s.Plus))) e
+none_longer s.Minus rest e l = (cond_both (eqb (get_or rest 0 0) 61) (Some s.SubAssign) _ (λ o. o ≡ None → ⊥) (λ _. none_absurd s.SubAssign) (λ _. cond_both (eqb (get_or rest 0 0) 45) (Some s.Decrement) _ (λ o. o ≡ None → ⊥) (λ _. none_absurd s.Decrement) (λ _. none_absurd s.Minus))) e
+none_longer s.Star rest e l = (cond_both (eqb (get_or rest 0 0) 61) (Some s.MulAssign) _ (λ o. o ≡ None → ⊥) (λ _. none_absurd s.MulAssign) (λ _. cond_both (eqb (get_or rest 0 0) 42) None _ (λ o. o ≡ None → ⊥) (λ f. λ _. l (42 ∷ []) (drop 1 rest) (first_is rest 42 (lit< tt) f) (λ z. cc) (inr (4, lit< tt, refl))) (λ _. none_absurd s.Star))) e
+none_longer s.Not rest e l = (cond_both (eqb (get_or rest 0 0) 61 && eqb (get_or rest 1 0) 61) (Some s.NotSame) _ (λ o. o ≡ None → ⊥) (λ _. none_absurd s.NotSame) (λ _. cond_both (eqb (get_or rest 0 0) 61) None _ (λ o. o ≡ None → ⊥) (λ f. λ _. l (61 ∷ []) (drop 1 rest) (first_is rest 61 (lit< tt) f) (λ z. cc) (inr (3, lit< tt, refl))) (λ _. none_absurd s.Not))) e
+none_longer s.Less rest e l = (cond_both (eqb (get_or rest 0 0) 60) None _ (λ o. o ≡ None → ⊥) (λ f. λ _. l (60 ∷ []) (drop 1 rest) (first_is rest 60 (lit< tt) f) (λ z. cc) (inr (10, lit< tt, refl))) (λ _. cond_both (eqb (get_or rest 0 0) 61) (Some s.LessSame) _ (λ o. o ≡ None → ⊥) (λ _. none_absurd s.LessSame) (λ _. none_absurd s.Less))) e
+none_longer s.LessSame rest e l = cc
+none_longer s.More rest e l = (cond_both (eqb (get_or rest 0 0) 62) None _ (λ o. o ≡ None → ⊥) (λ f. λ _. l (62 ∷ []) (drop 1 rest) (first_is rest 62 (lit< tt) f) (λ z. cc) (inr (11, lit< tt, refl))) (λ _. cond_both (eqb (get_or rest 0 0) 61) (Some s.MoreSame) _ (λ o. o ≡ None → ⊥) (λ _. none_absurd s.MoreSame) (λ _. none_absurd s.More))) e
+none_longer s.MoreSame rest e l = cc
+none_longer s.Same rest e l = cc
+none_longer s.NotSame rest e l = cc
+none_longer s.And rest e l = (cond_both (eqb (get_or rest 0 0) 61) None _ (λ o. o ≡ None → ⊥) (λ f. λ _. l (61 ∷ []) (drop 1 rest) (first_is rest 61 (lit< tt) f) (λ z. cc) (inr (23, lit< tt, refl))) (λ _. none_absurd s.And)) e
+none_longer s.Or rest e l = (cond_both (eqb (get_or rest 0 0) 61) None _ (λ o. o ≡ None → ⊥) (λ f. λ _. l (61 ∷ []) (drop 1 rest) (first_is rest 61 (lit< tt) f) (λ z. cc) (inr (24, lit< tt, refl))) (λ _. none_absurd s.Or)) e
+none_longer s.Coalesce rest e l = (cond_both (eqb (get_or rest 0 0) 61) None _ (λ o. o ≡ None → ⊥) (λ f. λ _. l (61 ∷ []) (drop 1 rest) (first_is rest 61 (lit< tt) f) (λ z. cc) (inr (25, lit< tt, refl))) (λ _. none_absurd s.Coalesce)) e
+
+other_class : (c : ℕ) → is_name_start c ≡ false → is_digit c ≡ false → c ≢ 34 → (class_of c ≡ blank) ⊎ (class_of c ≡ mark)
+other_class c h g n =
+    let q : eqb c 34 ≡ false = ne_eqb c 34 n in
+    let e : class_of c ≡ cond (is_blank c) blank mark = cond-false (is_name_start c) word _ h ∙ cond-false (is_digit c) digit _ g ∙ cond-false (eqb c 34) quote _ q in
+    elim (cases_Bool (is_blank c)) [
+      | inl b ↦ inl (e ∙ cond-true (is_blank c) blank mark b)
+      | inr b ↦ inr (e ∙ cond-false (is_blank c) blank mark b)
+    ]
+
+pub sign_refused : (text : List ℕ) (k : TokenKind) (n : ℕ) → longest_sign (get_or text 0 0) (get_or text 1 0) (get_or text 2 0) ≡ None → is_name_start (get_or text 0 0) ≡ false → is_digit (get_or text 0 0) ≡ false → get_or text 0 0 ≢ 34 → Begins text k n → ⊥
+sign_refused text k n e h g q b =
+    elim (other_class (get_or text 0 0) h g q) [
+      | inl c ↦ no_blank_kind k (sym (begins_class text k n b) ∙ c)
+      | inr c ↦
+          let r = mark_reading k (take n text) (sym (begins_class text k n b) ∙ c) (reading b.token) in
+          let whole : sign_text r.0 ++ drop n text ≡ text = ap (λ v. v ++ drop n text) (sym r.2) ∙ take-append-drop n text in
+          none_longer r.0 (drop n text) (ap sign_of whole ∙ e) (subst (λ v. IsLongest v (drop n text)) r.2 b.longest)
+    ]
