@@ -6,3 +6,15 @@ pub mod LexNumbers
 pub mod LexSigns
 pub mod LayoutSteps
 pub mod LayoutReads
+pub mod ParseNames
+pub mod ParseComplete
+pub mod ParseAll
+pub mod ParseDeeper
+pub mod ParseOpen
+pub mod ParseStep
+pub mod ParseSound
+pub mod ParseStack
+pub mod ParseRun
+pub mod SpellLasts
+pub mod SpellAgain
+pub mod SpellAll

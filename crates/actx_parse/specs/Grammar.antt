@@ -102,3 +102,7 @@ pub data SpellsProgram (side : Side) : ℕ → Stmts → List TokenKind → Type
 -- the tokens spell the program within the limits of the side
 abbrev pub IsSpelled : Side → Stmts → List TokenKind → Type 0
 IsSpelled side p ts = SpellsProgram side (deepest side) p ts
+
+-- no token list spells two programs
+abbrev pub OneTree : Type 0
+OneTree = (side : Side) (p q : Stmts) (ts : List TokenKind) → IsSpelled side p ts → IsSpelled side q ts → p ≡ q

@@ -2,8 +2,10 @@ pub mod Lexical
 pub mod Lexeme
 pub mod Tree
 pub mod Grammar
+pub mod Parser
 pub mod Static
 pub mod Accepts
 pub mod Spell
 pub mod Layout
 pub mod View
+pub mod ParserView

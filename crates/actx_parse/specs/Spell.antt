@@ -1,12 +1,14 @@
 -- The tokens of a tree, with parentheses only where the levels need them.
-use Rattle.std.specs.Prelude.{ℕ, suc, List, [], ◌∷◌, ◌++◌, Bool, true, false, nat_lt, codes}
+use Rattle.std.specs.Prelude.{ℕ, suc, List, [], ◌∷◌, ◌++◌, Bool, true, false, nat_lt, codes, All}
 use Rattle.actx_parse.specs.declared.token.Keyword.TheVariants as k
 use Rattle.actx_parse.specs.declared.token.Sign.TheVariants as s
 use Rattle.actx_parse.specs.declared.token.TokenKind.{TokenKind}
 use Rattle.actx_parse.specs.declared.token.TokenKind.TheVariants as t
 use Rattle.actx_parse.specs.declared.tree.Form.TheVariants.{Log}
 use Rattle.actx_parse.specs.Tree.{Expr, Num, Text, Named, Binary, Built, Exprs, none, also, Items, no_items, item, Stmt, Const, Value, Stmts, end, next}
-use Rattle.actx_parse.specs.Grammar.{level_of, sign_of}
+use Rattle.actx_parse.specs.Grammar.{level_of, sign_of, SpellsProgram}
+use Rattle.actx_parse.specs.Lexical.{HasForm}
+use Rattle.actx_parse.specs.declared.side.Side.{Side}
 
 abbrev pub in_parens : Bool → List TokenKind → List TokenKind
 in_parens true x = t.Sign s.OpenParen ∷ (x ++ t.Sign s.CloseParen ∷ [])
@@ -44,3 +46,17 @@ spell_stmt (Value e) = spell e 1 ++ t.Sign s.Semicolon ∷ []
 abbrev pub spell_program : Stmts → List TokenKind
 spell_program end = []
 spell_program (next st ss) = spell_stmt st ++ spell_program ss
+
+-- what stands before an item of a list
+abbrev pub comma_unless : Bool → List TokenKind
+comma_unless true = []
+comma_unless false = t.Sign s.Comma ∷ []
+
+-- LAWS
+-- a program that some tokens spell is spelled by its own tokens too, within the same depth
+abbrev pub SpelledAgain : Type 0
+SpelledAgain = (side : Side) (d : ℕ) (p : Stmts) (ts : List TokenKind) → SpellsProgram side d p ts → SpellsProgram side d p (spell_program p)
+
+-- and each of them is of its kind's form
+abbrev pub SpelledInForm : Type 0
+SpelledInForm = (side : Side) (d : ℕ) (p : Stmts) (ts : List TokenKind) → SpellsProgram side d p ts → All HasForm (spell_program p)

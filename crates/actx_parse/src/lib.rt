@@ -2,10 +2,13 @@
 #![tactic(auto)]
 
 pub mod check;
+mod copy;
 pub mod emit;
 pub mod lex;
 pub mod name;
+pub mod parse;
 pub mod side;
+pub mod spell;
 pub mod token;
 pub mod tree;
 mod words;
