@@ -1,3 +1,4 @@
+pub mod CheckRules
 pub mod LexKinds
 pub mod LexOnce
 pub mod LexRuns
