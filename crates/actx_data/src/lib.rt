@@ -17,7 +17,7 @@ pub use faults::NoMemory;
 pub use number::{add, mul, number_text, sub};
 pub use shown::{ErrorName, Shown};
 pub use trace::{JobKind, TraceEvent};
-pub use twin::Twin;
+pub use twin::{Twin, copy_all};
 pub use units::{Units, join};
 pub use value::Value;
 

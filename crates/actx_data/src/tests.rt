@@ -1,6 +1,8 @@
 //! Copies of each type of value, compared with their sources.
 
-use super::{End, ErrorName, Event, JobKind, NoMemory, Shown, TraceEvent, Twin, Units, Value};
+use super::{
+    End, ErrorName, Event, JobKind, NoMemory, Shown, TraceEvent, Twin, Units, Value, copy_all,
+};
 use std::alloc::Global;
 use std::test::Fail;
 
@@ -28,6 +30,8 @@ fn copied_values(rt: HostRuntime) -> Result<(), Fail> {
         assert!(rt; is_copied(rt.alloc(), value)?);
     }
     assert!(rt; Value::Num(1) != Value::Thing(1));
+    let twins = copy_all(rt.alloc(), &values)?;
+    assert!(rt; twins.as_slice() == values.as_slice());
     Ok(())
 }
 

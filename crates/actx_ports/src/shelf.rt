@@ -2,6 +2,7 @@
 
 ghost use Rattle.std.specs.Prelude.{◌≡◌, ◌<◌, ◌≤◌, ◌++◌, ℕ, List, [], length, min, take, drop, Some, None, is_some};
 ghost use Rattle.std.specs.Bool.{OnTrue, OnFalse};
+ghost use Rattle.std.specs.Vec.{vec_allocator};
 ghost use Rattle.actx_ports.specs.Ports.{Gives};
 ghost use Rattle.actx_ports.specs.Memory.{held_in, left_in, place_of, held_on, left_on, name_on};
 
@@ -28,7 +29,9 @@ impl Shelf {
     }
 
     /// The allocator of the files.
-    pub fn allocator(&self) -> Global {
+    pub fn allocator(&self) -> Global
+        ensures { result ≡ vec_allocator self.now.files }
+    {
         *self.files.allocator()
     }
 
