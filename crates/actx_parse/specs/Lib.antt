@@ -9,3 +9,4 @@ pub mod Spell
 pub mod Layout
 pub mod View
 pub mod ParserView
+pub mod ReadFaults

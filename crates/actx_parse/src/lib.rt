@@ -7,6 +7,7 @@ pub mod emit;
 pub mod lex;
 pub mod name;
 pub mod parse;
+pub mod read;
 pub mod side;
 pub mod spell;
 pub mod token;
