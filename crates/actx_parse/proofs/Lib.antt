@@ -15,7 +15,6 @@ pub mod ParseStep
 pub mod ParseSound
 pub mod ParseStack
 pub mod ParseRun
-pub mod CheckRules
 pub mod SpellLasts
 pub mod SpellAgain
 pub mod SpellAll

@@ -93,3 +93,27 @@ pub fn read_plain(alloc: Global, text: &[u8]) -> Result<Program, ReadFault>
     let tokens = lex(alloc, text)?;
     Ok(parse_plain(alloc, &tokens)?)
 }
+<<<<<<< HEAD
+=======
+
+#[cfg(test)]
+mod tests {
+    use super::*;
+    use std::test::Fail;
+
+    #[test]
+    fn texts_are_read_or_refused(rt: HostRuntime) -> Result<(), Fail> {
+        let taken = read_program(rt.alloc(), b"const a = 1; console.log(a + a);")?;
+        assert_eq!(rt; taken.body.len(), 2);
+        let plain = read_plain(rt.alloc(), b"const a = a;")?;
+        assert_eq!(rt; plain.body.len(), 1);
+        let early = read_program(rt.alloc(), b"const a = a;");
+        assert!(rt; matches!(early, Err(ReadFault::Refused)));
+        let cut = read_program(rt.alloc(), b"const a = 1 # 2;");
+        assert!(rt; matches!(cut, Err(ReadFault::Refused)));
+        let unended = read_program(rt.alloc(), b"const a = 1");
+        assert!(rt; matches!(unended, Err(ReadFault::Refused)));
+        Ok(())
+    }
+}
+>>>>>>> 6af954eff7de67373c1eaceceafbe21fe3ccf9e8
