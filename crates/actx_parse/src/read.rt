@@ -93,8 +93,6 @@ pub fn read_plain(alloc: Global, text: &[u8]) -> Result<Program, ReadFault>
     let tokens = lex(alloc, text)?;
     Ok(parse_plain(alloc, &tokens)?)
 }
-<<<<<<< HEAD
-=======
 
 #[cfg(test)]
 mod tests {
@@ -116,4 +114,3 @@ mod tests {
         Ok(())
     }
 }
->>>>>>> 6af954eff7de67373c1eaceceafbe21fe3ccf9e8
