@@ -5,3 +5,4 @@ pub mod Declared
 pub mod Running
 pub mod Lowered
 pub mod Emitted
+pub mod Readable

@@ -26,7 +26,7 @@ const MOST_READ: usize = 1_048_577;
 fn is_run(word: &str) -> bool
     ensures { result ≡ same_text word.now (codes "run") }
 {
-    word.as_bytes() == b"run"
+    word.as_bytes() == b"run".as_slice()
 }
 
 /// Whether a word begins with `-`.
