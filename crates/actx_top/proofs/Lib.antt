@@ -6,3 +6,4 @@ pub mod Running
 pub mod Lowered
 pub mod Emitted
 pub mod Readable
+pub mod Taken

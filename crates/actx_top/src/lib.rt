@@ -13,5 +13,5 @@ mod scope;
 mod sound;
 mod top;
 
-pub use laws::{emitted_is_spelled, source_and_target_match};
+pub use laws::{clean_programs_never_throw, emitted_is_spelled, source_and_target_match};
 pub use top::actx;
