@@ -1,12 +1,15 @@
 //! The laws of the two runs, which every program's run and its emitted program's run obey.
 
-ghost use Rattle.std.specs.Prelude.{List};
+ghost use Rattle.std.specs.Prelude.{ℕ, List};
+ghost use Rattle.actx_data.specs.declared.event.Event.{Event};
 ghost use Rattle.actx_parse.specs.declared.token.TokenKind.{TokenKind};
 ghost use Rattle.actx_parse.specs.declared.side.Side.TheVariants.{Source, Plain};
 ghost use Rattle.actx_parse.specs.Grammar.{SpellsProgram};
+ghost use Rattle.actx_parse.specs.Static.{Clean};
 ghost use Rattle.actx_parse.specs.Tree.{Stmts};
+ghost use Rattle.actx_top.specs.Answers.{IsThrow};
 ghost use Rattle.actx_top.specs.Low.{low};
-ghost use Rattle.actx_top.specs.Meaning.{Same};
+ghost use Rattle.actx_top.specs.Meaning.{Same, target_shows};
 
 /// The run of a program and the run of its emitted program match in both directions, for every list of host events.
 pub fn source_and_target_match()
@@ -16,4 +19,9 @@ pub fn source_and_target_match()
 /// Some tokens of the plain side spell the emitted program.
 pub fn emitted_is_spelled()
     ensures { (p : Stmts) (x : List TokenKind) → SpellsProgram Source 200 p x → (y : List TokenKind) × SpellsProgram Plain 32768 (low p) y }
+{}
+
+/// No run of a clean program's emitted program throws, whatever the host events.
+pub fn clean_programs_never_throw()
+    ensures { (p : Stmts) → Clean p → (events : List Event) (n : ℕ) → IsThrow (target_shows (low p) events n).end → ⊥ }
 {}
