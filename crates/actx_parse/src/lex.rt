@@ -151,8 +151,7 @@ fn first_text(alloc: Global, text: &[u8]) -> Result<Option<Lexeme>, NoMemory>
 
 /// The sign that a text begins with (ECMA-262, 12.8), or `None` where the longest punctuator is none.
 fn first_sign(text: &[u8]) -> Option<Lexeme>
-    requires nonempty { 0 < length text.now }
-    requires other { (spec.is_name_start (slice_index text.now 0) ≡ false) × (spec.is_digit (slice_index text.now 0) ≡ false) × (slice_index text.now 0 ≢ 34) }
+    requires { (spec.is_name_start (slice_index text.now 0) ≡ false) × (spec.is_digit (slice_index text.now 0) ≡ false) × (slice_index text.now 0 ≢ 34) }
     ensures found { IfSome result (λ l. Begins text.now l.kind l.len) }
     ensures refused { IfNone result ((k : TokenKind) (n : ℕ) → Begins text.now k n → ⊥) }
 {

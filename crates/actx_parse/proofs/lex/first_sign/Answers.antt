@@ -2,7 +2,8 @@ use Rattle.std.proofs.Common.{◌≡◌, ℕ, length, Option, Some, None, sym, a
 use Rattle.actx_parse.specs.declared.token.Sign.{Sign}
 use Rattle.actx_parse.specs.declared.token.TokenKind.TheVariants as t
 use Rattle.actx_parse.specs.Lexeme.{Begins, longest_sign}
-use Rattle.actx_parse.proofs.LexSigns.{sign_begins, sign_refused}
+use Rattle.actx_parse.proofs.LexNoSign.{sign_refused}
+use Rattle.actx_parse.proofs.LexSigns.{sign_begins}
 use Rattle.actx_parse.proofs.lex.first_sign.Goals as goal
 
 at_bytes : (a b c x y z : ℕ) (o r : Option Sign) → a ≡ x → b ≡ y → c ≡ z → o ≡ longest_sign a b c → o ≡ r → longest_sign x y z ≡ r
@@ -12,7 +13,7 @@ pub returns-in_err-sign-clause-refused : goal.returns-in_err-sign-clause-refused
 returns-in_err-sign-clause-refused c = rw c.from_residual.ensures (λ k n b.
     sign_refused c.args.text.now k n
     (at_bytes _ _ _ _ _ _ c.longest_sign.result None c.byte_at.ensures c.byte_at-2.ensures c.byte_at-3.ensures c.longest_sign.ensures c.in_err-sign.was)
-    c.requires.other.0 c.requires.other.1 c.requires.other.2 b)
+    c.requires.0 c.requires.1 c.requires.2 b)
 
 pub returns-clause-found : goal.returns-clause-found
 returns-clause-found c =
