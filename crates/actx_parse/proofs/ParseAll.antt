@@ -1,14 +1,12 @@
 -- What is spelled is parsed: statements and programs.
-use Rattle.std.proofs.Common.{◌≡◌, ℕ, suc, ◌+◌, ◌≤◌, List, [], ◌∷◌, ◌++◌, length, Option, Some, None, Bool, true, false, cond, refl, sym, ◌∙◌, ap, subst, arith, append_assoc}
-use Rattle.std.proofs.lemmas.List.{append-nil}
+use Rattle.std.proofs.Common.{◌≡◌, ℕ, suc, ◌≤◌, List, [], ◌∷◌, ◌++◌, Some, cond, refl, sym, ◌∙◌, ap, arith, append_assoc}
 use Rattle.actx_parse.specs.declared.side.Side.{Side}
-use Rattle.actx_parse.specs.declared.token.Keyword.TheVariants as k
 use Rattle.actx_parse.specs.declared.token.Sign.TheVariants as g
 use Rattle.actx_parse.specs.declared.token.TokenKind.{TokenKind}
 use Rattle.actx_parse.specs.declared.token.TokenKind.TheVariants as t
-use Rattle.actx_parse.specs.Tree.{Expr, Items, no_items, item, Stmt, Const, Value, Stmts, end, next}
-use Rattle.actx_parse.specs.Grammar.{deepest, sign_of, with_item, IsBinding, IsSpelled, Spells, sp_number, sp_text, sp_name, sp_paren, sp_binary, sp_log, SpellsItems, sp_item, sp_items, SpellsStmt, sp_const, sp_value, SpellsProgram, sp_end, sp_next}
-use Rattle.actx_parse.specs.Parser.{Frame, Owner, statement, item_of, start, name_next, assign_next, need, have, go, refuse, with_stmt, run, parse, is_binding}
+use Rattle.actx_parse.specs.Tree.{Expr, Items, no_items, Stmt, Const, Stmts, end, next}
+use Rattle.actx_parse.specs.Grammar.{deepest, sign_of, IsBinding, IsSpelled, Spells, sp_number, sp_text, sp_name, sp_paren, sp_binary, sp_log, SpellsItems, sp_item, sp_items, SpellsStmt, sp_const, sp_value, SpellsProgram, sp_end, sp_next}
+use Rattle.actx_parse.specs.Parser.{Frame, statement, item_of, start, name_next, assign_next, need, go, refuse, with_stmt, run, parse}
 use Rattle.actx_parse.proofs.ParseNames.{binding_passes}
 use Rattle.actx_parse.proofs.ParseComplete.{own_least, Room, complete, after}
 

@@ -1,11 +1,9 @@
 -- What is spelled is parsed.
-use Rattle.std.proofs.Common.{◌≡◌, ℕ, zero, suc, max, ◌+◌, ◌≤◌, ◌<◌, List, [], ◌∷◌, ◌++◌, length, Option, Some, None, Bool, true, false, ◌&&◌, cond, refl, sym, ◌∙◌, ap, subst, arith, append_assoc}
-use Rattle.std.proofs.lemmas.List.{append-nil}
+use Rattle.std.proofs.Common.{◌≡◌, ℕ, suc, max, ◌+◌, ◌≤◌, ◌<◌, List, [], ◌∷◌, ◌++◌, length, Option, true, false, ◌&&◌, cond, refl, ◌∙◌, ap, arith, append_assoc}
 use Rattle.std.proofs.lemmas.Bool.Decides.{nat_tests}
 use Rattle.std.specs.Prelude.{nat_le, nat_lt, codes}
 use Rattle.actx_parse.specs.declared.side.Side.{Side}
 use Rattle.actx_parse.specs.declared.side.Side.TheVariants.{Source, Plain}
-use Rattle.actx_parse.specs.declared.token.Keyword.TheVariants as k
 use Rattle.actx_parse.specs.declared.token.Sign.{Sign}
 use Rattle.actx_parse.specs.declared.token.Sign.TheVariants as g
 use Rattle.actx_parse.specs.declared.token.TokenKind.{TokenKind}
@@ -14,10 +12,10 @@ use Rattle.actx_parse.specs.declared.tree.BinaryOp.{BinaryOp}
 use Rattle.actx_parse.specs.declared.tree.BinaryOp.TheVariants.{Add, Sub, Mul}
 use Rattle.actx_parse.specs.declared.tree.Form.TheVariants.{Log}
 use Rattle.actx_parse.specs.Lexical.{same_text}
-use Rattle.actx_parse.specs.Tree.{Expr, Num, Text, Named, Binary, Built, Exprs, none, also, Items, no_items, item, Stmt, Const, Value, Stmts, end, next}
-use Rattle.actx_parse.specs.Grammar.{deepest, count, Allows, level_of, sign_of, with_last, with_item, IsBinding, Spells, sp_number, sp_text, sp_name, sp_paren, sp_binary, sp_log, SpellsArguments, sp_no_arguments, sp_arguments, sp_arguments_comma, SpellsList, sp_one, sp_more, SpellsItems, sp_item, sp_items, SpellsStmt, sp_const, sp_value, SpellsProgram, sp_end, sp_next}
-use Rattle.actx_parse.specs.Parser.{Frame, in_binary, in_paren, in_log, Owner, statement, item_of, Mode, start, name_next, assign_next, need, have, dot_next, log_next, open_next, Move, refuse, go, ended, leaf_reach, fits, takes_more, has_room, Settled, settled, settle, operand, begin_operand, name_operand, paren_operand, at_need, close_list, operator, close, comma, semicolon, next_item, made, at_sign, at_have, step, with_stmt, carry, finish, run, parse, is_binding, is_reference}
-use Rattle.actx_parse.proofs.ParseNames.{binding_passes, reference_passes, reference_no_console}
+use Rattle.actx_parse.specs.Tree.{Expr, Num, Text, Named, Binary, Built, Exprs, none, also, Stmts}
+use Rattle.actx_parse.specs.Grammar.{deepest, count, Allows, level_of, sign_of, with_last, Spells, sp_number, sp_text, sp_name, sp_paren, sp_binary, sp_log, SpellsArguments, sp_no_arguments, sp_arguments, sp_arguments_comma, SpellsList, sp_one, sp_more}
+use Rattle.actx_parse.specs.Parser.{Frame, in_binary, in_paren, in_log, Owner, start, need, have, dot_next, Move, refuse, go, leaf_reach, takes_more, has_room, settled, settle, operand, begin_operand, name_operand, operator, close, comma, semicolon, with_stmt, carry, run, is_reference}
+use Rattle.actx_parse.proofs.ParseNames.{reference_passes, reference_no_console}
 
 -- the level at which the operand that is wanted stands
 abbrev pub level_in : List Frame → ℕ

@@ -1,8 +1,8 @@
 -- What is spelled within a depth and at a level is spelled within a greater depth and at a lower level.
-use Rattle.std.proofs.Common.{◌≡◌, ℕ, zero, suc, ◌≤◌, List, ◌∷◌, ◌++◌, arith}
+use Rattle.std.proofs.Common.{ℕ, zero, suc, ◌≤◌, List, arith}
 use Rattle.actx_parse.specs.declared.side.Side.{Side}
 use Rattle.actx_parse.specs.declared.token.TokenKind.{TokenKind}
-use Rattle.actx_parse.specs.Tree.{Expr, Exprs, Items, Stmt, Stmts}
+use Rattle.actx_parse.specs.Tree.{Expr, Exprs, Items, Stmt}
 use Rattle.actx_parse.specs.Grammar.{Spells, sp_number, sp_text, sp_name, sp_paren, sp_binary, sp_log, SpellsArguments, sp_no_arguments, sp_arguments, sp_arguments_comma, SpellsList, sp_one, sp_more, SpellsItems, sp_item, sp_items, SpellsStmt, sp_const, sp_value}
 
 mutual

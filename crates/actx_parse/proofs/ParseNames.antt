@@ -1,8 +1,7 @@
 -- The parser's tests of names say what the grammar says.
-use Rattle.std.proofs.Common.{◌≡◌, ◌≢◌, ℕ, ◌<◌, List, [], ◌∷◌, length, Bool, true, false, cond, refl, sym, ◌∙◌, ap}
-use Rattle.std.specs.Prelude.{Contains, codes, bytes_eq}
+use Rattle.std.proofs.Common.{◌≡◌, ℕ, List, Bool, true, false, cond, refl, sym, ◌∙◌, ap}
+use Rattle.std.specs.Prelude.{Contains, codes}
 use Rattle.std.specs.Bool.{Decides}
-use Rattle.std.specs.List.{HoldsAt}
 use Rattle.std.proofs.lemmas.Bool.Decides.{Decides-by_or, Decides-like, not_from_Decides}
 use Rattle.std.proofs.lemmas.List.Elements.{Decides-contains}
 use Rattle.std.proofs.lemmas.Slice.Eq.{bytes_eq-Decides}

@@ -1,22 +1,18 @@
 -- What was read of a statement, and what it left open.
-use Rattle.std.proofs.Common.{◌≡◌, ℕ, zero, suc, max, ◌+◌, ◌≤◌, ◌<◌, List, [], ◌∷◌, ◌++◌, length, Bool, true, false, ◌&&◌, cond, refl, sym, ◌∙◌, ap, subst, arith, append_assoc}
-use Rattle.std.proofs.lemmas.List.{append-nil}
+use Rattle.std.proofs.Common.{◌≡◌, ℕ, suc, max, ◌+◌, ◌≤◌, ◌<◌, List, [], ◌∷◌, ◌++◌, length, Bool, true, false, cond, refl, sym, subst, arith, append_assoc}
 use Rattle.std.proofs.lemmas.Bool.Decides.{nat_tests}
-use Rattle.std.specs.Prelude.{nat_le, nat_lt, codes}
+use Rattle.std.specs.Prelude.{nat_le, codes}
 use Rattle.actx_parse.specs.declared.side.Side.{Side}
-use Rattle.actx_parse.specs.declared.side.Side.TheVariants.{Source, Plain}
 use Rattle.actx_parse.specs.declared.token.Keyword.TheVariants as k
-use Rattle.actx_parse.specs.declared.token.Sign.{Sign}
 use Rattle.actx_parse.specs.declared.token.Sign.TheVariants as g
 use Rattle.actx_parse.specs.declared.token.TokenKind.{TokenKind}
 use Rattle.actx_parse.specs.declared.token.TokenKind.TheVariants as t
 use Rattle.actx_parse.specs.declared.tree.BinaryOp.{BinaryOp}
-use Rattle.actx_parse.specs.declared.tree.Form.TheVariants.{Log}
-use Rattle.actx_parse.specs.Tree.{Expr, Num, Text, Named, Binary, Built, Exprs, none, also, Items, no_items, item, Stmt, Const, Value}
-use Rattle.actx_parse.specs.Grammar.{deepest, count, Allows, level_of, sign_of, with_last, with_item, IsBinding, Spells, sp_number, sp_text, sp_name, sp_paren, sp_binary, sp_log, SpellsArguments, sp_no_arguments, sp_arguments, sp_arguments_comma, SpellsList, sp_one, sp_more, SpellsItems, sp_item, sp_items, SpellsStmt, sp_const, sp_value}
-use Rattle.actx_parse.specs.Parser.{Frame, in_binary, in_paren, in_log, Owner, statement, item_of, Mode, start, name_next, assign_next, need, have, dot_next, log_next, open_next, Move, refuse, go, ended, leaf_reach, takes_more, has_room, Settled, settled, settle, made}
-use Rattle.actx_parse.proofs.ParseComplete.{level_in, level_small, level_in_small, count_last}
-use Rattle.actx_parse.proofs.ParseDeeper.{deeper, deeper_list, deeper_items}
+use Rattle.actx_parse.specs.Tree.{Expr, Binary, Exprs, none, Items, no_items, Stmt}
+use Rattle.actx_parse.specs.Grammar.{deepest, count, Allows, level_of, sign_of, IsBinding, Spells, sp_binary, SpellsList, SpellsItems, SpellsStmt}
+use Rattle.actx_parse.specs.Parser.{Frame, in_binary, in_paren, in_log, Owner, statement, item_of, Mode, start, name_next, assign_next, need, have, dot_next, log_next, open_next, Move, refuse, go, ended, leaf_reach, has_room, Settled, settled, settle}
+use Rattle.actx_parse.proofs.ParseComplete.{level_in}
+use Rattle.actx_parse.proofs.ParseDeeper.{deeper}
 
 -- the arguments so far, each with its comma
 pub data Begun (side : Side) : ℕ → Exprs → List TokenKind → Type 0 where

@@ -1,11 +1,10 @@
 -- What is parsed is spelled.
-use Rattle.std.proofs.Common.{◌≡◌, ℕ, zero, suc, max, ◌+◌, ◌≤◌, ◌<◌, List, [], ◌∷◌, ◌++◌, length, Option, Some, None, Bool, true, false, ◌&&◌, cond, refl, sym, ◌∙◌, ap, subst, arith, append_assoc}
+use Rattle.std.proofs.Common.{◌≡◌, ℕ, suc, ◌≤◌, List, [], ◌∷◌, ◌++◌, Some, Bool, true, false, ◌&&◌, cond, refl, sym, ◌∙◌, ap, subst, arith, append_assoc}
 use Rattle.std.proofs.lemmas.List.{append-nil}
 use Rattle.std.proofs.lemmas.List.Elements.{recursion_from_All}
-use Rattle.std.specs.Prelude.{nat_le, nat_lt, codes, All}
+use Rattle.std.specs.Prelude.{codes, All}
 use Rattle.std.specs.List.{AllByRecursion}
 use Rattle.actx_parse.specs.declared.side.Side.{Side}
-use Rattle.actx_parse.specs.declared.side.Side.TheVariants.{Source, Plain}
 use Rattle.actx_parse.specs.declared.token.Keyword.{Keyword}
 use Rattle.actx_parse.specs.declared.token.Keyword.TheVariants as k
 use Rattle.actx_parse.specs.declared.token.Sign.{Sign}
@@ -13,13 +12,13 @@ use Rattle.actx_parse.specs.declared.token.Sign.TheVariants as g
 use Rattle.actx_parse.specs.declared.token.TokenKind.{TokenKind}
 use Rattle.actx_parse.specs.declared.token.TokenKind.TheVariants as t
 use Rattle.actx_parse.specs.Lexical.{HasForm, IsName, same_text}
-use Rattle.actx_parse.specs.Tree.{Expr, Num, Text, Named, Exprs, none, Items, no_items, Stmt, Stmts, end, next}
+use Rattle.actx_parse.specs.Tree.{Expr, Named, Items, Stmt, Stmts, end}
 use Rattle.actx_parse.specs.Grammar.{deepest, IsBinding, IsSpelled, Spells, sp_number, sp_text, sp_name, SpellsProgram, sp_end, sp_next}
-use Rattle.actx_parse.specs.Parser.{Frame, in_binary, in_paren, in_log, Owner, statement, item_of, Mode, start, name_next, assign_next, need, have, dot_next, log_next, open_next, Move, refuse, go, ended, leaf_reach, fits, takes_more, has_room, operand, begin_operand, name_operand, paren_operand, at_need, close_list, at_start, at_name, at_assign, at_dot, at_log, at_open, step, is_binding, is_reference, with_stmt, carry, finish, run, parse}
+use Rattle.actx_parse.specs.Parser.{Frame, in_binary, in_paren, in_log, Owner, statement, Mode, start, assign_next, need, have, dot_next, open_next, Move, refuse, go, ended, leaf_reach, fits, has_room, operand, begin_operand, name_operand, at_need, close_list, at_start, at_name, at_assign, at_dot, at_log, at_open, step, is_binding, is_reference, with_stmt, finish, run, parse}
 use Rattle.actx_parse.proofs.ParseNames.{same_decides, binding_is, reference_is}
 use Rattle.actx_parse.proofs.ParseComplete.{after}
 use Rattle.actx_parse.proofs.ParseDeeper.{deeper_stmt}
-use Rattle.actx_parse.proofs.ParseOpen.{BegunItems, none_begun_items, Begun, none_begun, Opens, op_statement, op_item, op_paren, op_log, Held, Place, Viable, v_start, v_name, v_assign, v_need, v_have, v_dot, v_log, v_open, IsStatement, After, viable_along}
+use Rattle.actx_parse.proofs.ParseOpen.{BegunItems, none_begun_items, none_begun, Opens, op_statement, op_item, op_paren, op_log, Place, Viable, v_start, v_name, v_assign, v_need, v_have, v_dot, v_log, v_open, IsStatement, After, viable_along}
 use Rattle.actx_parse.proofs.ParseStep.{chosen, and_left, and_right, fitting, have_viable, log_done, none_allowed}
 
 -- OPERANDS

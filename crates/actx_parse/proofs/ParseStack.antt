@@ -1,12 +1,12 @@
 -- The stack, whose last frame is on top, and lists that grow at their end.
-use Rattle.std.proofs.Common.{◌≡◌, ℕ, suc, List, [], ◌∷◌, ◌++◌, length, ◌+◌, refl, sym, ◌∙◌, ap, map, arith, ◌-◌, zero, Option, Some, None}
-use Rattle.std.specs.Prelude.{slice_get, Bool}
+use Rattle.std.proofs.Common.{◌≡◌, ℕ, suc, List, [], ◌∷◌, ◌++◌, length, ◌+◌, refl, ap, arith, ◌-◌, zero, Some}
+use Rattle.std.specs.Prelude.{slice_get}
 use Rattle.actx_parse.specs.declared.side.Side.{Side}
 use Rattle.actx_parse.specs.Tree as t
 use Rattle.actx_parse.specs.Grammar.{count, with_last, with_item}
 use Rattle.actx_parse.specs.Parser as m
 use Rattle.actx_parse.specs.Parser.{with_stmt, has_room, frame_room}
-use Rattle.actx_parse.specs.View.{exprs_of, expr_view, exprs_view, items_view, stmt_view, stmts_view}
+use Rattle.actx_parse.specs.View.{expr_view, exprs_view, items_view, stmt_view, stmts_view}
 use Rattle.actx_parse.specs.ParserView.{frame_view, onto, stack_view}
 use Rattle.actx_parse.specs.declared.parse.state.Frame.{Frame}
 use Rattle.actx_parse.specs.declared.tree.Expr.{Expr}

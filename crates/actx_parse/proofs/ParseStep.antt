@@ -1,12 +1,9 @@
 -- A step keeps what was read the beginning of a statement.
-use Rattle.std.proofs.Common.{◌≡◌, ℕ, zero, suc, max, ◌+◌, ◌≤◌, ◌<◌, List, [], ◌∷◌, ◌++◌, length, Bool, true, false, ◌&&◌, cond, refl, sym, ◌∙◌, ap, subst, arith, append_assoc}
-use Rattle.std.proofs.lemmas.List.{append-nil}
+use Rattle.std.proofs.Common.{◌≡◌, ℕ, suc, max, ◌+◌, ◌≤◌, ◌<◌, List, [], ◌∷◌, ◌++◌, length, Bool, true, false, ◌&&◌, cond, refl, sym, ap, subst, arith, append_assoc}
 use Rattle.std.proofs.lemmas.Bool.Decides.{nat_tests}
-use Rattle.std.specs.Prelude.{nat_le, nat_lt, codes}
+use Rattle.std.specs.Prelude.{codes}
 use Rattle.actx_parse.specs.declared.side.Side.{Side}
 use Rattle.actx_parse.specs.declared.side.Side.TheVariants.{Source, Plain}
-use Rattle.actx_parse.specs.declared.token.Keyword.{Keyword}
-use Rattle.actx_parse.specs.declared.token.Keyword.TheVariants as k
 use Rattle.actx_parse.specs.declared.token.Sign.{Sign}
 use Rattle.actx_parse.specs.declared.token.Sign.TheVariants as g
 use Rattle.actx_parse.specs.declared.token.TokenKind.{TokenKind}
@@ -14,14 +11,12 @@ use Rattle.actx_parse.specs.declared.token.TokenKind.TheVariants as t
 use Rattle.actx_parse.specs.declared.tree.BinaryOp.{BinaryOp}
 use Rattle.actx_parse.specs.declared.tree.BinaryOp.TheVariants.{Add, Sub, Mul}
 use Rattle.actx_parse.specs.declared.tree.Form.TheVariants.{Log}
-use Rattle.actx_parse.specs.Lexical.{HasForm, IsName, same_text}
-use Rattle.actx_parse.specs.Tree.{Expr, Num, Text, Named, Binary, Built, Exprs, none, also, Items, no_items, item, Stmt, Const, Value}
-use Rattle.actx_parse.specs.Grammar.{deepest, count, Allows, level_of, sign_of, with_last, with_item, IsBinding, Spells, sp_number, sp_text, sp_name, sp_paren, sp_binary, sp_log, SpellsArguments, sp_no_arguments, sp_arguments, sp_arguments_comma, SpellsList, sp_one, sp_more, SpellsItems, sp_item, sp_items, SpellsStmt, sp_const, sp_value}
-use Rattle.actx_parse.specs.Parser.{Frame, in_binary, in_paren, in_log, Owner, statement, item_of, Mode, start, name_next, assign_next, need, have, dot_next, log_next, open_next, Move, refuse, go, ended, leaf_reach, fits, takes_more, has_room, Settled, settled, settle, operand, begin_operand, name_operand, paren_operand, at_need, close_list, operator, close, comma, semicolon, next_item, made, at_sign, at_have, at_start, at_name, at_assign, at_dot, at_log, at_open, step, is_binding, is_reference}
-use Rattle.actx_parse.proofs.ParseNames.{same_decides, binding_is, reference_is}
-use Rattle.actx_parse.proofs.ParseComplete.{level_in, level_small, level_in_small, count_last}
+use Rattle.actx_parse.specs.Tree.{Expr, Built, Exprs, Items, Const, Value}
+use Rattle.actx_parse.specs.Grammar.{deepest, count, Allows, level_of, sign_of, with_last, with_item, IsBinding, Spells, sp_paren, sp_log, sp_no_arguments, sp_arguments, sp_arguments_comma, SpellsList, sp_one, sp_more, SpellsItems, sp_item, sp_items, sp_const, sp_value}
+use Rattle.actx_parse.specs.Parser.{Frame, in_binary, in_paren, in_log, Owner, statement, item_of, name_next, need, Move, refuse, go, fits, takes_more, Settled, settled, settle, operator, close, comma, semicolon, at_sign, at_have}
+use Rattle.actx_parse.proofs.ParseComplete.{level_in, level_in_small, count_last}
 use Rattle.actx_parse.proofs.ParseDeeper.{deeper, deeper_list, deeper_items}
-use Rattle.actx_parse.proofs.ParseOpen.{Begun, none_begun, all_begun, BegunItems, none_begun_items, all_begun_items, Opens, op_statement, op_item, op_binary, op_paren, op_log, Held, Place, Viable, v_start, v_name, v_assign, v_need, v_have, v_dot, v_log, v_open, IsStatement, After, opens_along, held_along, statement_along, viable_along, SettledAt, settle_viable}
+use Rattle.actx_parse.proofs.ParseOpen.{Begun, none_begun, all_begun, BegunItems, none_begun_items, all_begun_items, Opens, op_statement, op_item, op_binary, op_paren, op_log, Held, Viable, v_name, v_need, v_have, IsStatement, After, opens_along, held_along, statement_along, viable_along, SettledAt, settle_viable}
 
 -- TESTS
 -- after a choice by a test

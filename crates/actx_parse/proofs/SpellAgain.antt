@@ -1,19 +1,18 @@
 -- A tree that some tokens spell is spelled by its own tokens too, within the same depth.
-use Rattle.std.proofs.Common.{◌≡◌, ℕ, zero, suc, ◌<◌, ◌≤◌, List, [], ◌∷◌, ◌++◌, Bool, true, false, refl, sym, ◌∙◌, ap, subst, arith, append_assoc}
+use Rattle.std.proofs.Common.{◌≡◌, ℕ, suc, ◌≤◌, List, ◌∷◌, ◌++◌, Bool, true, false, refl, sym, ◌∙◌, ap, subst, arith, append_assoc}
 use Rattle.std.proofs.lemmas.List.{append-nil}
 use Rattle.std.proofs.lemmas.Bool.Decides.{nat_tests}
-use Rattle.std.specs.Prelude.{nat_lt, codes}
+use Rattle.std.specs.Prelude.{nat_lt}
 use Rattle.actx_parse.specs.declared.side.Side.{Side}
 use Rattle.actx_parse.specs.declared.token.Sign.TheVariants as g
 use Rattle.actx_parse.specs.declared.token.TokenKind.{TokenKind}
 use Rattle.actx_parse.specs.declared.token.TokenKind.TheVariants as t
 use Rattle.actx_parse.specs.declared.tree.BinaryOp.{BinaryOp}
 use Rattle.actx_parse.specs.declared.tree.BinaryOp.TheVariants.{Add, Sub, Mul}
-use Rattle.actx_parse.specs.declared.tree.Form.TheVariants.{Log}
-use Rattle.actx_parse.specs.Tree.{Expr, Num, Text, Named, Binary, Built, Exprs, none, also, Items, no_items, item, Stmt, Const, Value, Stmts, end, next}
-use Rattle.actx_parse.specs.Grammar.{level_of, sign_of, with_last, with_item, IsBinding, Spells, sp_number, sp_text, sp_name, sp_paren, sp_binary, sp_log, SpellsArguments, sp_no_arguments, sp_arguments, sp_arguments_comma, SpellsList, sp_one, sp_more, SpellsItems, sp_item, sp_items, SpellsStmt, sp_const, sp_value, SpellsProgram, sp_end, sp_next}
-use Rattle.actx_parse.specs.Spell.{in_parens, spell, spell_list, spell_more, spell_items, spell_more_items, spell_stmt, spell_program}
-use Rattle.actx_parse.proofs.ParseDeeper.{deeper, deeper_list}
+use Rattle.actx_parse.specs.Tree.{Expr, Exprs, none, also}
+use Rattle.actx_parse.specs.Grammar.{level_of, with_last, Spells, sp_number, sp_text, sp_name, sp_paren, sp_binary, sp_log, SpellsArguments, sp_no_arguments, sp_arguments, sp_arguments_comma, SpellsList, sp_one, sp_more}
+use Rattle.actx_parse.specs.Spell.{in_parens, spell, spell_list, spell_more}
+use Rattle.actx_parse.proofs.ParseDeeper.{deeper}
 
 bare_level : (k l : ℕ) → nat_lt k l ≡ false → l ≤ k
 bare_level k l h = grind (arith, nat_tests)

@@ -1,5 +1,5 @@
 -- Statements and programs that some tokens spell are spelled by their own tokens too, each of its kind's form.
-use Rattle.std.proofs.Common.{◌≡◌, ℕ, suc, ◌≤◌, List, [], ◌∷◌, ◌++◌, Bool, true, false, ◌≢◌, refl, sym, ◌∙◌, ap, subst, arith, append_assoc, rules}
+use Rattle.std.proofs.Common.{◌≡◌, ℕ, List, [], ◌∷◌, ◌++◌, true, false, ◌≢◌, refl, sym, ◌∙◌, ap, subst, arith, append_assoc, rules}
 use Rattle.std.proofs.lemmas.List.{append-nil}
 use Rattle.std.proofs.lemmas.List.Elements.{All-nil, All-cons, All-append}
 use Rattle.std.specs.Prelude.{All, codes}
@@ -10,7 +10,7 @@ use Rattle.actx_parse.specs.declared.token.Sign.TheVariants as g
 use Rattle.actx_parse.specs.declared.token.TokenKind.{TokenKind}
 use Rattle.actx_parse.specs.declared.token.TokenKind.TheVariants as t
 use Rattle.actx_parse.specs.Lexical.{HasForm, IsName, keyword_text, same_text}
-use Rattle.actx_parse.specs.Tree.{Expr, Exprs, Items, no_items, item, Stmt, Const, Value, Stmts, end, next}
+use Rattle.actx_parse.specs.Tree.{Expr, Exprs, Items, no_items, item, Stmt, Stmts}
 use Rattle.actx_parse.specs.Grammar.{sign_of, with_item, IsBinding, Spells, sp_number, sp_text, sp_name, sp_paren, sp_binary, sp_log, SpellsArguments, sp_no_arguments, sp_arguments, sp_arguments_comma, SpellsList, sp_one, sp_more, SpellsItems, sp_item, sp_items, SpellsStmt, sp_const, sp_value, SpellsProgram, sp_end, sp_next}
 use Rattle.actx_parse.specs.Spell.{spell, spell_items, spell_more_items, spell_stmt, spell_program}
 use Rattle.actx_parse.proofs.ParseNames.{same_decides}

@@ -1,8 +1,7 @@
 -- One more argument, item or statement is spelled at the end.
-use Rattle.std.proofs.Common.{◌≡◌, ℕ, Bool, true, false, List, [], ◌∷◌, ◌++◌, refl, sym, ◌∙◌, ap, append_assoc}
+use Rattle.std.proofs.Common.{◌≡◌, ℕ, Bool, true, false, List, ◌∷◌, ◌++◌, refl, sym, ◌∙◌, ap, append_assoc}
 use Rattle.std.proofs.lemmas.List.{append-nil}
 use Rattle.actx_parse.specs.declared.token.Sign.TheVariants as g
-use Rattle.actx_parse.specs.declared.token.TokenKind.{TokenKind}
 use Rattle.actx_parse.specs.declared.token.TokenKind.TheVariants as t
 use Rattle.actx_parse.specs.Tree.{Expr, Exprs, none, also, Items, no_items, item, Stmt, Stmts, end, next}
 use Rattle.actx_parse.specs.Grammar.{with_last, with_item}

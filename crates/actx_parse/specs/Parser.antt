@@ -11,7 +11,7 @@ use Rattle.actx_parse.specs.declared.tree.BinaryOp.{BinaryOp}
 use Rattle.actx_parse.specs.declared.tree.BinaryOp.TheVariants.{Add, Sub, Mul}
 use Rattle.actx_parse.specs.declared.tree.Form.TheVariants.{Log}
 use Rattle.actx_parse.specs.Lexical.{same_text}
-use Rattle.actx_parse.specs.Tree.{Expr, Num, Text, Named, Binary, Built, Exprs, none, also, Items, no_items, item, Stmt, Const, Value, Stmts, end, next}
+use Rattle.actx_parse.specs.Tree.{Expr, Num, Text, Named, Binary, Built, Exprs, none, Items, no_items, Stmt, Const, Value, Stmts, end, next}
 use Rattle.actx_parse.specs.Grammar.{deepest, count, built_in, level_of, with_last, with_item}
 
 -- NAMES

@@ -1,5 +1,5 @@
 -- What the code's parser holds stands for.
-use Rattle.std.specs.Prelude.{ℕ, List, [], ◌∷◌, Option, Some, None}
+use Rattle.std.specs.Prelude.{List, [], ◌∷◌}
 use Rattle.actx_parse.specs.Parser as m
 use Rattle.actx_parse.specs.View.{expr_view, exprs_view, items_view, stmt_view}
 use Rattle.actx_parse.specs.declared.parse.state.Operand.{Operand}
