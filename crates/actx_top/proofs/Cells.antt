@@ -60,9 +60,11 @@ declare_new es x none = ap (map cell_in) (goes_last es none) ∙ appended es ∙
         by_test : (b : Bool) → (if b then Some f.1 else lookup (same_text x) fs) ≡ None → (lookup (same_text x) fs ≡ None → insert_entry same_text fs x None ≡ fs ++ (x, None) ∷ []) → (if b then (f.0, None) ∷ fs else f ∷ insert_entry same_text fs x None) ≡ f ∷ (fs ++ (x, None) ∷ [])
         by_test true k ih = absurd cc
         by_test false k ih = ap (λ z. f ∷ z) (ih k)
+
     appended : (fs : List Entry) → map cell_in (fs ++ (x, None) ∷ []) ≡ map cell_in fs ++ unset x ∷ []
     appended [] = refl
     appended (f ∷ fs) = ap (λ z. cell_in f ∷ z) (appended fs)
+
     absent : (fs : List Entry) → lookup (same_text x) fs ≡ None → with_name x (map cell_in fs) ≡ map cell_in fs ++ unset x ∷ []
     absent fs h = ap (λ b. if b then map cell_in fs else map cell_in fs ++ unset x ∷ []) (not_there fs h)
       where

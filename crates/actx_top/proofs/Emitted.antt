@@ -82,8 +82,10 @@ name_renamed x n = record { first = 112; more = 95 ∷ x; is = refl; starts = re
   where
     P : ℕ → Type 0
     P c = IsTrue (is_name_part c)
+
     own : All P x
     own = subst (All P) (sym n.is) (All-cons P n.first n.more (start_is_part n.first n.starts) n.goes_on)
+
     parts : All P (95 ∷ x)
     parts = All-cons P 95 x refl own
 

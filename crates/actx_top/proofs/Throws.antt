@@ -13,7 +13,6 @@ use Rattle.actx_top.specs.Meaning.{source_shows, target_shows}
 use Rattle.actx_top.proofs.Same.Theorem.{keeps}
 use Rattle.actx_top.proofs.Throws.Cells.{names_declared}
 use Rattle.actx_top.proofs.Throws.Moves.{cells_are, in_list, clean_exec, NowSafe, safe_doing, safe_idle, safe_over, Safe, kept}
-
 pub mod Cells
 pub mod Moves
 

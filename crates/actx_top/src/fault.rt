@@ -10,7 +10,8 @@ use actx_ports::{PortFault, Sink, write_whole};
 use std::alloc::Global;
 
 /// The line on words that are no command line.
-const USAGE: &str = "actx: usage: actx MODE [FILE] [--events FILE] [--steps N] [--seed N] [--count N]\n";
+const USAGE: &str =
+    "actx: usage: actx MODE [FILE] [--events FILE] [--steps N] [--seed N] [--count N]\n";
 
 /// The line on a run that goes on.
 const STILL_GOING: &str = "actx: still going after 20000000 steps\n";

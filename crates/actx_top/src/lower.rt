@@ -76,7 +76,10 @@ fn statement_renamed(alloc: Global, statement: &Stmt) -> Result<Stmt, NoMemory>
 fn use_strict(alloc: Global) -> Result<Stmt, NoMemory>
     ensures { IfOk result (λ made. stmt_view made ≡ Value (Text (codes "use strict"))) }
 {
-    let units = b"use strict".iter().map(|byte| u16::from(*byte)).collect(alloc)?;
+    let units = b"use strict"
+        .iter()
+        .map(|byte| u16::from(*byte))
+        .collect(alloc)?;
     Ok(Stmt::Value(Expr::Text(Units::from_vec(units))))
 }
 

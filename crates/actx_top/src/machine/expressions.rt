@@ -23,12 +23,7 @@ use std::alloc::Global;
 const GREATEST: u64 = 9_007_199_254_740_991;
 
 /// What a name is in the open scopes, the innermost first.
-fn find(
-    alloc: Global,
-    scopes: &[Scope],
-    open: &[usize],
-    name: &Name,
-) -> Result<Reading, NoMemory>
+fn find(alloc: Global, scopes: &[Scope], open: &[usize], name: &Name) -> Result<Reading, NoMemory>
     ensures { IfOk result (λ reading. reading_of reading ≡ found_value (find scopes.now «open».now name.now)) }
 {
     match open {
@@ -147,18 +142,21 @@ impl<'a> Target<'a> {
     {
         match rest {
             Parts::Both(left, right) => {
-                self.frames.push(Frame::Pending(op, values, Parts::Right(right)))?;
+                self.frames
+                    .push(Frame::Pending(op, values, Parts::Right(right)))?;
                 self.task = Task::Eval(left);
                 Ok(())
             }
             Parts::Right(right) => {
-                self.frames.push(Frame::Pending(op, values, Parts::List(&[])))?;
+                self.frames
+                    .push(Frame::Pending(op, values, Parts::List(&[])))?;
                 self.task = Task::Eval(right);
                 Ok(())
             }
             Parts::List([]) => self.rule(op, &values),
             Parts::List([first, rest @ ..]) => {
-                self.frames.push(Frame::Pending(op, values, Parts::List(rest)))?;
+                self.frames
+                    .push(Frame::Pending(op, values, Parts::List(rest)))?;
                 self.task = Task::Eval(first);
                 Ok(())
             }
@@ -181,7 +179,11 @@ impl<'a> Target<'a> {
             }
             Expr::Named(name) => self.eval_name(name),
             Expr::Binary(op, left, right) => {
-                self.eval_parts(Op::Operator(*op), Vec::new(self.alloc), Parts::Both(left, right))
+                self.eval_parts(
+                    Op::Operator(*op),
+                    Vec::new(self.alloc),
+                    Parts::Both(left, right),
+                )
             }
             Expr::Form(form, parts) => {
                 self.eval_parts(Op::BuiltIn(*form), Vec::new(self.alloc), Parts::List(parts))
