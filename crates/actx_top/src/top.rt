@@ -188,3 +188,6 @@ pub fn actx<C: Cabinet, O: Sink, F: Sink>(
         None => tell(alloc, faults, Fault::BadWords),
     }
 }
+
+#[cfg(test)]
+mod tests;

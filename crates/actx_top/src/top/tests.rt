@@ -1,0 +1,218 @@
+//! The top call over cabinets and sinks in memory.
+
+use super::actx;
+use actx_ports::{MemoryCabinet, MemorySink};
+use std::alloc::{AllocError, Global};
+use std::test::Fail;
+
+/// What a call answered, and what it wrote.
+#[derive(Drop)]
+struct Answer {
+    status: u8,
+    out: String,
+    fault: String,
+}
+
+/// How the ports fail: the numbers of the cabinet's calls and of the output's writes that do, and the greatest piece
+/// that a write takes.
+#[derive(Clone, Copy)]
+struct Faults {
+    call: u64,
+    write: u64,
+    piece: usize,
+}
+
+const NONE: Faults = Faults {
+    call: 0,
+    write: 0,
+    piece: 1_048_577,
+};
+
+fn text_of(alloc: Global, bytes: &[u8]) -> Result<String, AllocError> {
+    String::from_utf8_lossy(alloc, bytes)
+}
+
+/// Calls it with these words, where the file `a.js` has this text.
+fn answer(
+    alloc: Global,
+    words: Vec<String>,
+    text: &[u8],
+    fails: Faults,
+) -> Result<Answer, AllocError> {
+    let name = String::from_str(alloc, "a.js")?;
+    let held = Vec::from_slice(alloc, text)?;
+    let mut files = MemoryCabinet::new(vec![in alloc; (name, held)]?, vec![in alloc; fails.call]?);
+    let mut out = MemorySink::new(alloc, vec![in alloc; fails.write]?, fails.piece);
+    let mut faults = MemorySink::new(alloc, Vec::new(alloc), 64);
+    let status = actx(alloc, &words, &mut files, &mut out, &mut faults);
+    let out = text_of(alloc, out.written())?;
+    let fault = text_of(alloc, faults.written())?;
+    Ok(Answer { status, out, fault })
+}
+
+/// Runs a text.
+fn ran(alloc: Global, text: &str, fails: Faults) -> Result<Answer, AllocError> {
+    let mode = String::from_str(alloc, "run")?;
+    let file = String::from_str(alloc, "a.js")?;
+    answer(alloc, vec![in alloc; mode, file]?, text.as_bytes(), fails)
+}
+
+/// Programs with their status, their lines and the line on the fault.
+const RUNS: [(&str, u8, &str, &str); 24] = [
+    ("", 0, "", ""),
+    ("\n \n", 0, "", ""),
+    ("console.log(1 + 2 * 3);\n", 0, "7\n", ""),
+    ("console.log(9007199254740991 + 1);", 4, "", "actx: left the profile\n"),
+    ("const a = 2; const b = \"x\" + a * 3; console.log(b, a - 5);", 0, "x6 -3\n", ""),
+    ("console.log(\"a\" - 1);", 4, "", "actx: left the profile\n"),
+    ("console.log(\"%\", 1);", 4, "", "actx: left the profile\n"),
+    ("if (1) {}", 3, "", "actx: a.js:1:1: 13 NotYet\n"),
+    ("console.log(\"%\");", 0, "%\n", ""),
+    ("console.log();", 0, "\n", ""),
+    ("console.log(1, \"a\", 2,);", 0, "1 a 2\n", ""),
+    ("console.log(1,2,3,4,5,6,7,8);", 0, "1 2 3 4 5 6 7 8\n", ""),
+    ("console.log(1,2,3,4,5,6,7,8,9);", 3, "", "actx: a.js:1:1: 13 NotYet\n"),
+    ("console.log(0 - 9007199254740991);", 0, "-9007199254740991\n", ""),
+    ("console.log(0 - 9007199254740991 - 1);", 4, "", "actx: left the profile\n"),
+    ("console.log(3037000500 * 3037000500);", 4, "", "actx: left the profile\n"),
+    ("console.log(1); console.log(1 * \"a\"); console.log(2);", 4, "1\n", "actx: left the profile\n"),
+    ("const a = 1, b = a + 1; console.log(a - b - 1, a - (b - 1));", 0, "-2 0\n", ""),
+    ("const a = a;", 3, "", "actx: a.js:1:1: 13 NotYet\n"),
+    ("const a = 1; const a = 2;", 3, "", "actx: a.js:1:1: 13 NotYet\n"),
+    ("const undefined = 1;", 3, "", "actx: a.js:1:1: 13 NotYet\n"),
+    ("console.log(y);", 3, "", "actx: a.js:1:1: 13 NotYet\n"),
+    ("const a = 1; a;", 3, "", "actx: a.js:1:1: 13 NotYet\n"),
+    ("// nothing", 3, "", "actx: a.js:1:1: 13 NotYet\n"),
+];
+
+#[test]
+fn programs_run(rt: HostRuntime) -> Result<(), Fail> {
+    for (text, status, out, fault) in RUNS {
+        let got = ran(rt.alloc(), text, NONE)?;
+        assert_eq!(rt; got.status, status, "{text}");
+        assert_eq!(rt; got.out.as_str(), out, "{text}");
+        assert_eq!(rt; got.fault.as_str(), fault, "{text}");
+    }
+    Ok(())
+}
+
+const SUM: &str = "console.log(1 + 2 * 3);";
+
+/// How the ports fail, the status, the lines and the line on the fault.
+const FAULTS: [(u64, u64, usize, u8, &str, &str); 7] = [
+    (1, 0, 64, 6, "", "actx: cannot read a.js\n"),
+    (2, 0, 64, 6, "", "actx: cannot read a.js\n"),
+    (3, 0, 64, 6, "", "actx: cannot read a.js\n"),
+    (0, 1, 64, 7, "", "actx: cannot write\n"),
+    (0, 2, 1, 7, "7", "actx: cannot write\n"),
+    (0, 0, 0, 7, "", "actx: cannot write\n"),
+    (0, 0, 1, 0, "7\n", ""),
+];
+
+#[test]
+fn ports_fail(rt: HostRuntime) -> Result<(), Fail> {
+    for (call, write, piece, status, out, fault) in FAULTS {
+        let got = ran(rt.alloc(), SUM, Faults { call, write, piece })?;
+        assert_eq!(rt; got.status, status);
+        assert_eq!(rt; got.out.as_str(), out);
+        assert_eq!(rt; got.fault.as_str(), fault);
+    }
+    Ok(())
+}
+
+const USAGE: &str =
+    "actx: usage: actx MODE [FILE] [--events FILE] [--steps N] [--seed N] [--count N]\n";
+
+/// Words with their number, and the status.
+const WORDS: [(&str, &str, usize, u8, &str); 9] = [
+    ("run", "a.js", 2, 0, ""),
+    ("", "", 0, 2, USAGE),
+    ("run", "", 1, 2, USAGE),
+    ("run", "a.js", 3, 2, USAGE),
+    ("lower", "a.js", 2, 2, USAGE),
+    ("run", "--steps", 2, 2, USAGE),
+    ("run", "-", 2, 2, USAGE),
+    ("run", "b.js", 2, 6, "actx: cannot read b.js\n"),
+    ("run", "", 2, 6, "actx: cannot read \n"),
+];
+
+#[test]
+fn words_are_read(rt: HostRuntime) -> Result<(), Fail> {
+    for (mode, file, count, status, fault) in WORDS {
+        let mut words = Vec::new(rt.alloc());
+        if count > 0 {
+            words.push(String::from_str(rt.alloc(), mode)?)?;
+        }
+        if count > 1 {
+            words.push(String::from_str(rt.alloc(), file)?)?;
+        }
+        if count > 2 {
+            words.push(String::from_str(rt.alloc(), file)?)?;
+        }
+        let got = answer(rt.alloc(), words, SUM.as_bytes(), NONE)?;
+        assert_eq!(rt; got.status, status, "{mode} {file}");
+        assert_eq!(rt; got.fault.as_str(), fault, "{mode} {file}");
+    }
+    Ok(())
+}
+
+/// A text that is repeated, between two others.
+fn repeated(
+    alloc: Global,
+    before: &str,
+    piece: &str,
+    times: u32,
+    after: &str,
+) -> Result<String, AllocError> {
+    let mut text = String::from_str(alloc, before)?;
+    for _ in 0..times {
+        text.push_str(piece)?;
+    }
+    text.push_str(after)?;
+    Ok(text)
+}
+
+/// Texts at a limit and one past it: what is repeated how often, the status, and how many bytes are printed.
+const LIMITS: [(&str, &str, u32, &str, u8, usize); 8] = [
+    ("", "console.log(1);\n", 65_536, "", 0, 131_072),
+    ("", "console.log(1);\n", 65_536, "\n", 3, 0),
+    ("const a = \"", "x", 524_288, "\"; console.log(a + a);", 0, 1_048_577),
+    ("const a = \"", "x", 524_288, "\"; console.log(a + a + \"y\");", 4, 0),
+    ("const a = \"", "x", 524_288, "\"; console.log(a, a);", 4, 0),
+    ("const a = ", "(", 198, "1", 3, 0),
+    ("console.log(9007199254740992", "", 0, ");", 3, 0),
+    ("console.log(\"\u{e9}", "", 0, "\");", 3, 0),
+];
+
+#[test]
+fn limits_are_exact(rt: HostRuntime) -> Result<(), Fail> {
+    for (before, piece, times, after, status, printed) in LIMITS {
+        let text = repeated(rt.alloc(), before, piece, times, after)?;
+        let got = ran(rt.alloc(), text.as_str(), NONE)?;
+        assert_eq!(rt; got.status, status, "{before} {times} {after}");
+        assert_eq!(rt; got.out.len(), printed, "{before} {times} {after}");
+    }
+    Ok(())
+}
+
+#[test]
+fn depth_is_counted(rt: HostRuntime) -> Result<(), Fail> {
+    for (pairs, status) in [(198u32, 0u8), (199, 3)] {
+        let opened = repeated(rt.alloc(), "const a = ", "(", pairs, "1")?;
+        let text = repeated(rt.alloc(), opened.as_str(), ")", pairs, ";")?;
+        let got = ran(rt.alloc(), text.as_str(), NONE)?;
+        assert_eq!(rt; got.status, status, "{pairs}");
+    }
+    Ok(())
+}
+
+#[test]
+fn bytes_that_are_no_text_are_refused(rt: HostRuntime) -> Result<(), Fail> {
+    let mode = String::from_str(rt.alloc(), "run")?;
+    let file = String::from_str(rt.alloc(), "a.js")?;
+    let words = vec![in rt.alloc(); mode, file]?;
+    let got = answer(rt.alloc(), words, b"console.log(\"\xff\");", NONE)?;
+    assert_eq!(rt; got.status, 3);
+    assert_eq!(rt; got.fault.as_str(), "actx: a.js:1:1: 13 NotYet\n");
+    Ok(())
+}
