@@ -1,5 +1,5 @@
 -- What the code's trees stand for.
-use Rattle.std.specs.Prelude.{ℕ, List, [], ◌∷◌, map}
+use Rattle.std.specs.Prelude.{List, [], ◌∷◌, map}
 use Rattle.actx_parse.specs.Tree as t
 use Rattle.actx_parse.specs.declared.tree.Expr.{Expr, fold-Expr}
 use Rattle.actx_parse.specs.declared.tree.Expr.TheOpen.{Expr-F}

@@ -33,7 +33,7 @@ fn text_of(alloc: Global, bytes: &[u8]) -> Result<String, AllocError> {
 }
 
 /// Calls it with these words, where the file `a.js` has this text.
-fn answer(
+fn called(
     alloc: Global,
     words: Vec<String>,
     text: &[u8],
@@ -54,7 +54,7 @@ fn answer(
 fn ran(alloc: Global, text: &str, fails: Faults) -> Result<Answer, AllocError> {
     let mode = String::from_str(alloc, "run")?;
     let file = String::from_str(alloc, "a.js")?;
-    answer(alloc, vec![in alloc; mode, file]?, text.as_bytes(), fails)
+    called(alloc, vec![in alloc; mode, file]?, text.as_bytes(), fails)
 }
 
 /// Programs with their status, their lines and the line on the fault.
@@ -149,7 +149,7 @@ fn words_are_read(rt: HostRuntime) -> Result<(), Fail> {
         if count > 2 {
             words.push(String::from_str(rt.alloc(), file)?)?;
         }
-        let got = answer(rt.alloc(), words, SUM.as_bytes(), NONE)?;
+        let got = called(rt.alloc(), words, SUM.as_bytes(), NONE)?;
         assert_eq!(rt; got.status, status, "{mode} {file}");
         assert_eq!(rt; got.fault.as_str(), fault, "{mode} {file}");
     }
@@ -211,7 +211,7 @@ fn bytes_that_are_no_text_are_refused(rt: HostRuntime) -> Result<(), Fail> {
     let mode = String::from_str(rt.alloc(), "run")?;
     let file = String::from_str(rt.alloc(), "a.js")?;
     let words = vec![in rt.alloc(); mode, file]?;
-    let got = answer(rt.alloc(), words, b"console.log(\"\xff\");", NONE)?;
+    let got = called(rt.alloc(), words, b"console.log(\"\xff\");", NONE)?;
     assert_eq!(rt; got.status, 3);
     assert_eq!(rt; got.fault.as_str(), "actx: a.js:1:1: 13 NotYet\n");
     Ok(())
