@@ -1,11 +1,10 @@
 -- A scope's table and the list of its cells.
-use Rattle.std.proofs.Common.{◌≡◌, ℕ, List, [], ◌∷◌, ◌++◌, map, Option, Some, None, Bool, true, false, ◌==◌, refl, sym, ap, ◌∙◌, if◌then◌else◌}
-use Rattle.std.specs.Cmp.Lexicographic.{pointwise}
+use Rattle.std.proofs.Common.{◌≡◌, ℕ, List, [], ◌∷◌, ◌++◌, map, Option, Some, None, Bool, true, false, refl, sym, ap, ◌∙◌, if◌then◌else◌}
 use Rattle.std.specs.Map.{lookup}
 use Rattle.indexmap.specs.IndexMap.{insert_entry}
 use Rattle.actx_data.specs.declared.value.Value.{Value}
 use Rattle.actx_parse.specs.Lexical.{same_text}
-use Rattle.actx_top.specs.Machine.{Cell, cell_of, set_cell, with_name, has_name, unset, given_cell}
+use Rattle.actx_top.specs.Machine.{cell_of, set_cell, with_name, has_name, unset, given_cell}
 use Rattle.actx_top.specs.Cells.{cell_in}
 use Rattle.actx_top.specs.Scope.{found_value, standing_of}
 use Rattle.actx_top.specs.declared.scope.Standing.TheVariants as t

@@ -1,5 +1,5 @@
 -- The names of one item or statement more.
-use Rattle.std.proofs.Common.{◌≡◌, ℕ, List, [], ◌∷◌, ◌++◌, refl}
+use Rattle.std.proofs.Common.{◌≡◌, List, [], ◌∷◌, ◌++◌, refl}
 use Rattle.actx_parse.specs.Tree as t
 use Rattle.actx_parse.specs.View.{items_view, stmts_view, stmt_view}
 use Rattle.actx_parse.specs.declared.tree.ConstItem.{ConstItem}

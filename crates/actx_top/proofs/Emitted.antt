@@ -1,15 +1,13 @@
 -- The emitted program is spelled by tokens of the plain side.
-use Rattle.std.proofs.Common.{◌≡◌, ◌≢◌, ℕ, suc, ◌+◌, ◌≤◌, List, [], ◌∷◌, ◌++◌, map, zero, Bool, true, false, ◌==◌, ◌&&◌, refl, sym, ap, ◌∙◌, subst, arith, lit≤}
+use Rattle.std.proofs.Common.{◌≡◌, ◌≢◌, ℕ, suc, ◌≤◌, List, ◌∷◌, zero, Bool, true, false, ◌==◌, ◌&&◌, refl, sym, ap, ◌∙◌, subst, arith, lit≤}
 use Rattle.std.specs.Prelude.{codes, All, Contains, IsTrue, ◌||◌}
 use Rattle.std.proofs.lemmas.List.Elements.{All-cons, All-contains, All-from_recursion}
 use Rattle.actx_parse.specs.declared.side.Side.TheVariants.{Source, Plain}
 use Rattle.actx_parse.specs.declared.token.Keyword.{Keyword}
 use Rattle.actx_parse.specs.declared.token.Keyword.TheVariants as k
-use Rattle.actx_parse.specs.declared.token.Sign.TheVariants as s
 use Rattle.actx_parse.specs.declared.token.TokenKind.{TokenKind}
-use Rattle.actx_parse.specs.declared.token.TokenKind.TheVariants as t
 use Rattle.actx_parse.specs.Lexical.{IsName, AllPass, is_name_part, is_name_start, is_digit, is_text_char, keyword_text}
-use Rattle.actx_parse.specs.Tree.{Expr, Exprs, none, also, Items, no_items, item, Stmt, Const, Value, Text, Stmts, end, next}
+use Rattle.actx_parse.specs.Tree.{Expr, Exprs, none, also, Items, no_items, item, Stmt, Stmts}
 use Rattle.actx_parse.specs.Grammar.{Spells, sp_number, sp_text, sp_name, sp_paren, sp_binary, sp_log, SpellsArguments, sp_no_arguments, sp_arguments, sp_arguments_comma, SpellsList, sp_one, sp_more, SpellsItems, sp_item, sp_items, SpellsStmt, sp_const, sp_value, SpellsProgram, sp_end, sp_next, IsReference, IsBinding, built_in, with_last, with_item}
 use Rattle.actx_top.specs.Low.{p_, renamed, all_renamed, items_renamed, stmt_renamed, program_renamed, low}
 

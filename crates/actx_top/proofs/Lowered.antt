@@ -1,8 +1,8 @@
 -- The renaming of one part, item or statement more.
-use Rattle.std.proofs.Common.{◌≡◌, ℕ, List, [], ◌∷◌, ◌++◌, map, refl, ap, ◌∙◌}
+use Rattle.std.proofs.Common.{◌≡◌, List, [], ◌∷◌, ◌++◌, ap, ◌∙◌}
 use Rattle.std.specs.Prelude.{codes}
 use Rattle.actx_parse.specs.Tree as t
-use Rattle.actx_parse.specs.View.{expr_view, exprs_of, exprs_view, items_view, stmt_view, stmts_view}
+use Rattle.actx_parse.specs.View.{expr_view, exprs_view, items_view, stmt_view, stmts_view}
 use Rattle.actx_parse.specs.declared.tree.Expr.{Expr}
 use Rattle.actx_parse.specs.declared.tree.ConstItem.{ConstItem}
 use Rattle.actx_parse.specs.declared.tree.Stmt.{Stmt}

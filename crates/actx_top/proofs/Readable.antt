@@ -5,7 +5,7 @@ use Rattle.actx_parse.specs.Spell.{spell_program}
 use Rattle.actx_parse.specs.Tree.{Stmts}
 use Rattle.actx_parse.proofs.LayoutReads.{reads_back}
 use Rattle.actx_parse.proofs.SpellAll.{program_again, program_formed}
-use Rattle.actx_top.specs.Headline.{emitted, Matches, Headline}
+use Rattle.actx_top.specs.Headline.{emitted, Headline}
 use Rattle.actx_top.specs.Low.{low}
 use Rattle.actx_top.proofs.Emitted.{low_spelled}
 use Rattle.actx_top.proofs.Same.Theorem.{same}

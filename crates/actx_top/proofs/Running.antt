@@ -1,12 +1,11 @@
 -- Runs of the code's machine.
-use Rattle.std.proofs.Common.{◌≡◌, ℕ, ◌+◌, ◌-◌, ◌<◌, ◌≤◌, true, false, refl, sym, ap, ◌∙◌, arith}
+use Rattle.std.proofs.Common.{◌≡◌, ℕ, ◌+◌, ◌-◌, ◌≤◌, true, false, refl, sym, ap, ◌∙◌, arith}
 use Rattle.actx_match.specs.Runs.{run}
 use Rattle.actx_match.proofs.Runs.{run_add, run_fixed}
 use Rattle.actx_data.specs.declared.end.End.{End}
 use Rattle.actx_data.specs.declared.end.End.TheVariants.{Going, Ended, Threw, Left}
-use Rattle.actx_data.specs.declared.trace.TraceEvent.{TraceEvent}
 use Rattle.actx_parse.specs.declared.side.Side.TheVariants.{Plain}
-use Rattle.actx_top.specs.Machine.{State, step, stopped, goes}
+use Rattle.actx_top.specs.Machine.{State, step, goes}
 use Rattle.actx_top.specs.MachineView.{state_of, going_or_over}
 use Rattle.actx_top.specs.declared.machine.Target.{Target}
 

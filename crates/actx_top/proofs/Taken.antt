@@ -1,5 +1,5 @@
 -- A text of which a byte more than it may have was read.
-use Rattle.std.proofs.Common.{◌≡◌, ℕ, ◌≤◌, List, length, take, sym, subst, arith}
+use Rattle.std.proofs.Common.{◌≡◌, ℕ, List, take, subst, arith}
 use Rattle.std.proofs.lemmas.List.{take_all, length-take}
 use Rattle.actx_parse.specs.Accepts.{Accepts}
 use Rattle.actx_parse.specs.Tree.{Stmts}

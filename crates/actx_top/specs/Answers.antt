@@ -1,5 +1,5 @@
 -- The answers of the top call, and when each comes.
-use Rattle.std.specs.Prelude.{◌≡◌, ℕ, Bool, true, false, ◌==◌, ◌&&◌, not, ◌≤◌, ◌⊎◌, List, [], ◌∷◌, ◌++◌, length, take, Option, Some, decimal, codes}
+use Rattle.std.specs.Prelude.{◌≡◌, ℕ, Bool, false, ◌==◌, ◌&&◌, not, ◌⊎◌, List, [], ◌∷◌, ◌++◌, Option, codes}
 use Rattle.actx_match.specs.Traced.{Seen}
 use Rattle.actx_ports.specs.Ports.{AddsAll, AddsPart, Rose}
 use Rattle.actx_data.specs.declared.end.End.{End}

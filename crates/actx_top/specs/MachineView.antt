@@ -1,8 +1,7 @@
 -- What the code's state stands for.
-use Rattle.std.specs.Prelude.{ℕ, List, [], ◌∷◌, map, reverse}
+use Rattle.std.specs.Prelude.{List, [], map, reverse}
 use Rattle.actx_data.specs.declared.end.End.{End}
 use Rattle.actx_data.specs.declared.end.End.TheVariants.{Going}
-use Rattle.actx_data.specs.declared.trace.TraceEvent.{TraceEvent}
 use Rattle.actx_parse.specs.Tree.{Exprs, also, none}
 use Rattle.actx_parse.specs.View.{expr_view, exprs_view, items_view, stmt_view, stmts_view}
 use Rattle.actx_top.specs.Machine as m

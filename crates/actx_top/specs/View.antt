@@ -1,5 +1,5 @@
 -- What the code's states stand for.
-use Rattle.std.specs.Prelude.{ℕ, List, [], ◌∷◌, map, Option, Some, None, if◌then◌else◌}
+use Rattle.std.specs.Prelude.{ℕ, List, Option, Some, None, if◌then◌else◌}
 use Rattle.actx_data.specs.declared.value.Value.{Value}
 use Rattle.actx_top.specs.Operators as op
 use Rattle.actx_top.specs.declared.operators.Answer.{Answer}

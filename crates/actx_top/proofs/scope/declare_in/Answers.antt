@@ -1,6 +1,5 @@
-use Rattle.std.proofs.Common.{◌≡◌, ◌∙◌, ap, map, None}
+use Rattle.std.proofs.Common.{◌∙◌, ap, map, None}
 use Rattle.actx_top.specs.Cells.{cell_in}
-use Rattle.actx_top.specs.Machine.{with_name}
 use Rattle.actx_top.proofs.Outcomes.{on_ok}
 use Rattle.actx_top.proofs.Cells.{unbound_is, unset_is, set_is, declare_new, declare_old}
 use Rattle.actx_top.proofs.scope.declare_in.Goals as goal

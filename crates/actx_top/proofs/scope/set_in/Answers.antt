@@ -1,4 +1,4 @@
-use Rattle.std.proofs.Common.{◌≡◌, ◌∙◌, ap, map}
+use Rattle.std.proofs.Common.{◌∙◌, ap, map}
 use Rattle.actx_top.specs.Cells.{cell_in}
 use Rattle.actx_top.proofs.Outcomes.{on_ok}
 use Rattle.actx_top.proofs.Cells.{unbound_is, unset_is, set_is, set_absent, set_unset, set_other}

@@ -1,4 +1,4 @@
-use Rattle.std.proofs.Common.{◌≡◌, ◌∙◌, ap}
+use Rattle.std.proofs.Common.{◌∙◌, ap}
 use Rattle.actx_top.proofs.Readable.{headline}
 use Rattle.actx_top.proofs.top.actx.Goals as goal
 

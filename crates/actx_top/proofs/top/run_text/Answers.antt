@@ -1,4 +1,4 @@
-use Rattle.std.proofs.Common.{◌≡◌, ◌∙◌, ap, subst, Err}
+use Rattle.std.proofs.Common.{◌∙◌, ap, subst, Err}
 use Rattle.actx_top.specs.Answers.{Ran}
 use Rattle.actx_top.proofs.top.run_text.Goals as goal
 

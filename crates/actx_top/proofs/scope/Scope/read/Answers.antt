@@ -1,7 +1,3 @@
-use Rattle.std.proofs.Common.{◌≡◌, ◌∙◌, ap, sym, subst, IfOk}
-use Rattle.std.proofs.Common.{Result, Ok, Err}
-use Rattle.actx_top.specs.Scope.{reading_of, found_value}
-use Rattle.actx_top.specs.Machine.{cell_of}
 use Rattle.actx_top.proofs.Cells.{lookup-cell_of}
 use Rattle.actx_top.proofs.scope.Scope.read.Goals as goal
 
