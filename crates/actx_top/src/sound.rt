@@ -16,10 +16,10 @@ pub struct Sound {
 
 impl Model for Sound {
     ghost use Rattle.std.specs.Prelude.{IsTrue};
-    ghost use Rattle.actx_data.specs.declared.value.Value.{Value as Any};
+    ghost use Rattle.actx_data.specs.declared.value.Value.{Value as ProgramValue};
     ghost use Rattle.actx_top.specs.Sound.{is_sound};
 
-    ghost Value = { Any };
+    ghost Value = { ProgramValue };
 
     ghost view = { λ s. s.value };
 
