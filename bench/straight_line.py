@@ -22,18 +22,16 @@ def printed(size):
 
 
 def names(size):
-    count = size // 52
+    text, count = "", 0
+    while len(text) < size:
+        count += max(1, (size - len(text)) // 60)
+        last, text = text, named(count)
+    return text if len(text) <= size else last
+
+
+def named(count):
     made = "".join(f"const name{k} = {k % 89} + 1;\n" for k in range(count))
-    used = "".join(f"console.log(name{k});\n" for k in range(count))
-    return (made + used)[:size] if len(made + used) <= size else names_of(count * size // len(made + used), size)
-
-
-def names_of(count, size):
-    while True:
-        text = "".join(f"const name{k} = {k % 89} + 1;\n" for k in range(count)) + "".join(f"console.log(name{k});\n" for k in range(count))
-        if len(text) <= size:
-            return text
-        count -= 1 + (len(text) - size) // 60
+    return made + "".join(f"console.log(name{k});\n" for k in range(count))
 
 
 def measured(program, path):

@@ -8,3 +8,4 @@ pub mod Lowered
 pub mod Emitted
 pub mod Readable
 pub mod Taken
+pub mod Work

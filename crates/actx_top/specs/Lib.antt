@@ -4,6 +4,7 @@ pub mod Machine
 pub mod Cells
 pub mod Scope
 pub mod Low
+pub mod Weight
 pub mod Meaning
 pub mod Headline
 pub mod Answers

@@ -8,8 +8,10 @@ ghost use Rattle.actx_parse.specs.Grammar.{SpellsProgram};
 ghost use Rattle.actx_parse.specs.Static.{Clean};
 ghost use Rattle.actx_parse.specs.Tree.{Stmts};
 ghost use Rattle.actx_top.specs.Answers.{IsThrow};
+ghost use Rattle.actx_match.specs.Matching.{WithinFactor};
+ghost use Rattle.actx_top.specs.Weight.{source_cost};
 ghost use Rattle.actx_top.specs.Low.{low};
-ghost use Rattle.actx_top.specs.Meaning.{Same, target_shows};
+ghost use Rattle.actx_top.specs.Meaning.{Same, source_shows, target_shows};
 
 /// The run of a program and the run of its emitted program match in both directions, for every list of host events.
 pub fn source_and_target_match()
@@ -24,4 +26,9 @@ pub fn emitted_is_spelled()
 /// No run of a clean program's emitted program throws, whatever the host events.
 pub fn clean_programs_never_throw()
     ensures { (p : Stmts) → Clean p → (events : List Event) (n : ℕ) → IsThrow (target_shows (low p) events n).end → ⊥ }
+{}
+
+/// What a program shows after some steps, its emitted program shows after at most 1,024 times the weights of these steps.
+pub fn emitted_work_is_bounded()
+    ensures { (p : Stmts) (events : List Event) → WithinFactor 1024 (source_shows p events) (target_shows (low p) events) (source_cost p events) (λ m. m) }
 {}

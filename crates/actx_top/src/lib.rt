@@ -13,5 +13,8 @@ mod scope;
 mod sound;
 mod top;
 
-pub use laws::{clean_programs_never_throw, emitted_is_spelled, source_and_target_match};
+pub use laws::{
+    clean_programs_never_throw, emitted_is_spelled, emitted_work_is_bounded,
+    source_and_target_match,
+};
 pub use top::actx;

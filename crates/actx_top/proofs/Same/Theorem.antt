@@ -79,11 +79,11 @@ same_seen s r h =
     cc
 
 -- STARTS: the target runs the prelude, and then both have begun the program's list
-abbrev prelude_steps : ℕ
+abbrev pub prelude_steps : ℕ
 prelude_steps = 5
 
 -- the target where the prelude has run
-abbrev ready : Stmts → List Event → State
+abbrev pub ready : Stmts → List Event → State
 ready p events = run (step Plain) prelude_steps (start (low p) events)
 
 prelude_quiet : (p : Stmts) (events : List Event) → see (ready p events) ≡ see (start (low p) events)
@@ -94,7 +94,7 @@ begin_quiet : (p : Stmts) (events : List Event) → see (run (step Source) 1 (st
 begin_quiet t.end events = refl
 begin_quiet (t.next st ss) events = refl
 
-begun : (p : Stmts) (events : List Event) → Related (step Source (start p events)) (ready p events)
+pub begun : (p : Stmts) (events : List Event) → Related (step Source (start p events)) (ready p events)
 begun t.end events =
     let w : World = record { things = []; scopes = [] } in
     record {
