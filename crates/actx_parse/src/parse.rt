@@ -27,9 +27,9 @@ use thiserror::Error;
 #[derive(Clone, Copy, Debug, Drop, PartialEq, Eq, Error)]
 pub enum ParseFault {
     /// The tokens spell no program within the limits.
-    #[error("the tokens spell no program")]
+    #[error("Refused")]
     Refused,
-    #[error("no memory")]
+    #[error("NoMemory")]
     NoMemory,
 }
 

@@ -21,10 +21,10 @@ const LONGEST_SOURCE: usize = 1_048_576;
 #[derive(Clone, Copy, Debug, Drop, PartialEq, Eq, Error)]
 pub enum ReadFault {
     /// The text is no program, or passes a limit.
-    #[error("the text is no program")]
+    #[error("Refused")]
     Refused,
     /// Memory ran out.
-    #[error("no memory")]
+    #[error("NoMemory")]
     NoMemory,
 }
 

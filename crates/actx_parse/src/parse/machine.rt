@@ -27,7 +27,7 @@ fn on_start(
 {
     match token {
         TokenKind::Keyword(Keyword::Const) => {
-            let _unchanged = stack.len();
+            let _unchanged = stack.len(); // this read tells the proof that the stack stays
             Ok(Step::Go(Mode::ItemName(Vec::new(alloc))))
         }
         _ => on_need(alloc, side, Owner::Statement, token, stack),
@@ -44,7 +44,7 @@ fn on_name(
 ) -> Result<Step, NoMemory>
     ensures { IfOk result (λ r. at_name side (items_view items.items) (stack_view stack.old.items) token.now ≡ move_of r (stack_view stack.new.items)) }
 {
-    let _unchanged = stack.len();
+    let _unchanged = stack.len(); // this read tells the proof that the stack stays
     match token {
         TokenKind::Name(name) => {
             if is_binding(side, name) {
@@ -64,7 +64,7 @@ fn on_name(
 fn on_assign(items: Vec<ConstItem>, name: Name, token: &TokenKind, stack: &mut Vec<Frame>) -> Step
     ensures { at_assign (items_view items.items) name (stack_view stack.old.items) token.now ≡ move_of result (stack_view stack.new.items) }
 {
-    let _unchanged = stack.len();
+    let _unchanged = stack.len(); // this read tells the proof that the stack stays
     match token {
         TokenKind::Sign(Sign::Assign) => Step::Go(Mode::Need(Owner::Item(items, name))),
         TokenKind::Sign(_) => Step::Refused,
@@ -79,7 +79,7 @@ fn on_assign(items: Vec<ConstItem>, name: Name, token: &TokenKind, stack: &mut V
 fn on_dot(owner: Owner, token: &TokenKind, stack: &mut Vec<Frame>) -> Step
     ensures { at_dot (owner_view owner) (stack_view stack.old.items) token.now ≡ move_of result (stack_view stack.new.items) }
 {
-    let _unchanged = stack.len();
+    let _unchanged = stack.len(); // this read tells the proof that the stack stays
     match token {
         TokenKind::Sign(Sign::Dot) => Step::Go(Mode::LogName(owner)),
         TokenKind::Sign(_) => Step::Refused,
@@ -94,7 +94,7 @@ fn on_dot(owner: Owner, token: &TokenKind, stack: &mut Vec<Frame>) -> Step
 fn on_log_name(owner: Owner, token: &TokenKind, stack: &mut Vec<Frame>) -> Step
     ensures { at_log (owner_view owner) (stack_view stack.old.items) token.now ≡ move_of result (stack_view stack.new.items) }
 {
-    let _unchanged = stack.len();
+    let _unchanged = stack.len(); // this read tells the proof that the stack stays
     match token {
         TokenKind::Name(name) => {
             if is_word(name, b"log") {

@@ -110,7 +110,7 @@ fn name_operand(
     requires { reach ≡ leaf_reach (stack_view stack.old.items) }
     ensures { IfOk result (λ r. name_operand side (owner_view owner) (stack_view stack.old.items) name.now ≡ move_of r (stack_view stack.new.items)) }
 {
-    let _unchanged = stack.len();
+    let _unchanged = stack.len(); // this read tells the proof that the stack stays
     if is_word(name, b"console") {
         return Ok(Step::Go(Mode::Dot(owner)));
     }
