@@ -58,7 +58,7 @@ fn ran(alloc: Global, text: &str, fails: Faults) -> Result<Answer, AllocError> {
 }
 
 /// Programs with their status, their lines and the line on the fault.
-const RUNS: [(&str, u8, &str, &str); 24] = [
+const RUNS: [(&str, u8, &str, &str); 27] = [
     ("", 0, "", ""),
     ("\n \n", 0, "", ""),
     ("console.log(1 + 2 * 3);\n", 0, "7\n", ""),
@@ -128,6 +128,25 @@ const RUNS: [(&str, u8, &str, &str); 24] = [
     ("console.log(y);", 3, "", "actx: a.js:1:1: 13 NotYet\n"),
     ("const a = 1; a;", 3, "", "actx: a.js:1:1: 13 NotYet\n"),
     ("// nothing", 3, "", "actx: a.js:1:1: 13 NotYet\n"),
+    // The programs of examples/.
+    (
+        "const apples = 3;\nconst pears = 4;\nconst each = 25;\nconsole.log(\"fruit\", apples + pears);\nconsole.log(\"cents\", (apples + pears) * each);\n",
+        0,
+        "fruit 7\ncents 175\n",
+        "",
+    ),
+    (
+        "const request = \"GET /orders/17\";\nconst user = \"ada\";\nconst status = 200;\nconst started = 1200, ended = 1237;\nconst line = user + \" \" + request + \" \" + status;\nconsole.log(line);\nconsole.log(\"took\", ended - started, \"ms\");\n",
+        0,
+        "ada GET /orders/17 200\ntook 37 ms\n",
+        "",
+    ),
+    (
+        "const greatest = 9007199254740991;\nconst least = 0 - greatest;\nconsole.log(\"numbers from\", least, \"to\", greatest);\nconsole.log(\"one more leaves the profile:\");\nconsole.log(greatest + 1);\n",
+        4,
+        "numbers from -9007199254740991 to 9007199254740991\none more leaves the profile:\n",
+        "actx: left the profile\n",
+    ),
 ];
 
 #[test]
