@@ -1,5 +1,5 @@
 -- What is printed is read again.
-use Rattle.std.proofs.Common.{◌≡◌, inl, inr, ℕ, ◌+◌, ◌<◌, ◌≤◌, ◌^◌, Bool, true, false, cond, List, [], ◌∷◌, ◌++◌, length, get_or, refl, sym, ◌∙◌, ap, subst, arith, IsTrue, All, Contains, flat_map, decimal, encode_utf8}
+use Rattle.std.proofs.Common.{◌≡◌, inl, inr, ℕ, ◌+◌, ◌<◌, ◌≤◌, ◌^◌, Bool, true, false, cond, List, [], ◌∷◌, ◌++◌, length, get_or, refl, sym, ◌∙◌, ap, subst, arith, IsTrue, All, Contains, flat_map, decimal, encode_utf8, eqb}
 use Rattle.std.specs.List.{list_all}
 use Rattle.std.specs.Str.Parse.{digits_value, AllDigits}
 use Rattle.std.specs.Char.{digit_value}
@@ -11,10 +11,11 @@ use Rattle.std.proofs.lemmas.Str.Ascii.{encode_ascii}
 use Rattle.std.proofs.lemmas.Fmt.{decimal_is_IsNumeral, decimal_digit, first_decimal}
 use Rattle.actx_parse.specs.declared.token.Sign.{Sign}
 use Rattle.actx_parse.specs.declared.token.Sign.TheVariants as s
+use Rattle.actx_parse.specs.declared.token.Token.{Token}
 use Rattle.actx_parse.specs.declared.token.TokenKind.{TokenKind}
 use Rattle.actx_parse.specs.declared.token.TokenKind.TheVariants as t
-use Rattle.actx_parse.specs.Lexical.{is_blank, is_digit, is_name_part, is_text_char, AllPass, keyword_text, sign_text, refused_signs, greatest_number, IsToken, name_token, keyword_token, number_token, text_token, sign_token, IsLexeme, IsLongest, begins_free, MayFollow, Tokens, at_end, at_blank, at_token, HasForm}
-use Rattle.actx_parse.specs.Layout.{unit_text, token_text, ends_line, gap_after, layout}
+use Rattle.actx_parse.specs.Lexical.{is_blank, is_digit, is_name_part, is_text_char, AllPass, keyword_text, sign_text, refused_signs, greatest_number, IsToken, name_token, keyword_token, number_token, text_token, sign_token, IsLexeme, IsLongest, begins_free, begins_no_digit, MayFollow, Tokens, TokensFrom, at_end, at_blank, at_token, kinds_of, HasForm}
+use Rattle.actx_parse.specs.Layout.{unit_text, token_text, ends_line, gap_after, layout, laid_from, laid}
 use Rattle.actx_parse.proofs.LexKinds.{Class, word, digit, mark, class_of, token_class, nonempty_token, reading}
 use Rattle.actx_parse.proofs.LexRuns.{name_parts, word_lexeme}
 use Rattle.actx_parse.proofs.LexNumbers.{decimal_from, number_lexeme, text_longest}
@@ -155,20 +156,39 @@ token_ends (t.Sign s) rest b f h = blank_ends mark (sign_text s) rest b solid_ma
 blank_free : (b : ℕ) (rest : List ℕ) → IsTrue (is_blank b) → IsTrue (begins_free (b ∷ rest))
 blank_free b rest h = grind arith
 
+blank_no_digit : (b : ℕ) (rest : List ℕ) → IsTrue (is_blank b) → IsTrue (begins_no_digit (b ∷ rest))
+blank_no_digit b rest h = grind arith
+
 token_free : (k : TokenKind) (rest : List ℕ) (b : ℕ) → IsTrue (is_blank b) → MayFollow k (b ∷ rest)
 token_free (t.Name x) rest b h = tt
 token_free (t.Keyword q) rest b h = tt
 token_free (t.Number n) rest b h = blank_free b rest h
 token_free (t.Text u) rest b h = tt
-token_free (t.Sign s) rest b h = tt
+token_free (t.Sign sign) rest b h = λ e. blank_no_digit b rest h
 
-one_read : (k : TokenKind) (rest : List ℕ) (b : ℕ) (ts : List TokenKind) → HasForm k → IsTrue (is_blank b) → Tokens rest ts → Tokens (token_text k ++ b ∷ rest) (k ∷ ts)
-one_read k rest b ts f h r = at_token (printed k f) (token_ends k rest b f h) (token_free k rest b h) (at_blank h r)
+one_read : (broken : Bool) (k : TokenKind) (rest : List ℕ) (b : ℕ) (ts : List Token) → HasForm k → IsTrue (is_blank b) → TokensFrom (eqb b 10) rest ts → TokensFrom broken (token_text k ++ b ∷ rest) (record { kind = k; line_before = broken } ∷ ts)
+one_read broken k rest b ts f h r = at_token (printed k f) (token_ends k rest b f h) (token_free k rest b h) (at_blank h r)
 
 gap_blank : (k : TokenKind) → IsTrue (is_blank (gap_after k))
 gap_blank k = cond_both (ends_line k) 10 32 (λ g. IsTrue (is_blank g)) (λ _. refl) (λ _. refl)
 
-pub reads_back : (ts : List TokenKind) → All HasForm ts → Tokens (layout ts) ts
-reads_back [] h = at_blank refl at_end
-reads_back (k ∷ []) h = one_read k [] 10 [] (All-head HasForm k [] h) refl at_end
-reads_back (k ∷ j ∷ ts) h = one_read k (layout (j ∷ ts)) (gap_after k) (j ∷ ts) (All-head HasForm k (j ∷ ts) h) (gap_blank k) (reads_back (j ∷ ts) (All-tail HasForm k (j ∷ ts) h))
+gap_line : (k : TokenKind) → eqb (gap_after k) 10 ≡ ends_line k
+gap_line k = cond_both (ends_line k) 10 32 (λ g. eqb g 10 ≡ ends_line k) (λ e. sym e) (λ e. sym e)
+
+read_from : (broken : Bool) (ts : List TokenKind) → All HasForm ts → TokensFrom broken (layout ts) (laid_from broken ts)
+read_from broken [] h = at_blank refl at_end
+read_from broken (k ∷ []) h = one_read broken k [] 10 [] (All-head HasForm k [] h) refl at_end
+read_from broken (k ∷ j ∷ ts) h =
+    let rest = read_from (ends_line k) (j ∷ ts) (All-tail HasForm k (j ∷ ts) h) in
+    one_read broken k (layout (j ∷ ts)) (gap_after k) (laid_from (ends_line k) (j ∷ ts)) (All-head HasForm k (j ∷ ts) h) (gap_blank k)
+    (subst (λ b. TokensFrom b (layout (j ∷ ts)) (laid_from (ends_line k) (j ∷ ts))) (sym (gap_line k)) rest)
+
+pub reads_back : (ts : List TokenKind) → All HasForm ts → Tokens (layout ts) (laid ts)
+reads_back = read_from false
+
+kinds_from : (broken : Bool) (ts : List TokenKind) → kinds_of (laid_from broken ts) ≡ ts
+kinds_from broken [] = refl
+kinds_from broken (k ∷ ts) = ap (λ v. k ∷ v) (kinds_from (ends_line k) ts)
+
+pub kinds_laid : (ts : List TokenKind) → kinds_of (laid ts) ≡ ts
+kinds_laid = kinds_from false

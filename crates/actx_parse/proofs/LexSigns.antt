@@ -1,16 +1,17 @@
 -- Signs: the sign that the code finds is the longest punctuator there.
-use Rattle.std.proofs.Common.{◌≡◌, ◌≢◌, inl, inr, ℕ, zero, suc, ◌-◌, ◌<◌, ◌≤◌, true, ◌&&◌, List, [], ◌∷◌, ◌++◌, Option, Some, None, length, get_or, take, drop, refl, sym, ◌∙◌, ap, subst, arith, Contains, eqb, lit<, lit≤}
-use Rattle.std.proofs.lemmas.Bool.{cond_both, cases_lt, eqb-true, and_parts}
-use Rattle.std.proofs.lemmas.List.{take-append-drop, append_assoc, length-append, get_or-take, get_or_past}
+use Rattle.std.proofs.Common.{◌≡◌, ◌≢◌, inl, inr, ℕ, ◌-◌, ◌<◌, ◌≤◌, true, false, IsTrue, ◌&&◌, List, [], ◌∷◌, ◌++◌, Option, Some, None, length, get_or, take, drop, refl, sym, ◌∙◌, ap, subst, arith, Contains, eqb, lit≤}
+use Rattle.std.proofs.lemmas.Bool.{cond_both, cond-true, cond-false, cases_Bool, eqb-true, and_parts}
+use Rattle.std.proofs.lemmas.List.{take-append-drop, append_assoc, length-append, get_or-take}
 use Rattle.std.proofs.lemmas.List.Elements.{All-from_recursion, All-contains}
 use Rattle.actx_parse.specs.declared.token.Sign.{Sign}
 use Rattle.actx_parse.specs.declared.token.Sign.TheVariants as s
 use Rattle.actx_parse.specs.declared.token.TokenKind.{TokenKind}
 use Rattle.actx_parse.specs.declared.token.TokenKind.TheVariants as t
 use Rattle.std.specs.Str.Parse.{digits_value}
-use Rattle.actx_parse.specs.Lexical.{sign_text, refused_signs, IsToken, sign_token, IsLexeme, IsLongest}
+use Rattle.actx_parse.specs.Lexical.{is_digit, begins_no_digit, sign_text, refused_signs, IsToken, sign_token, IsLexeme, IsLongest}
 use Rattle.actx_parse.specs.Lexeme.{Begins, longest_sign, dot_sign, question_sign, equals_sign, plus_sign, minus_sign, star_sign, not_sign, less_sign, more_sign, and_sign, or_sign}
 use Rattle.actx_parse.proofs.LexKinds.{mark, class_of, kind_class, token_class, Reading, r_name, r_keyword, r_number, r_text, r_sign, reading, sign_some}
+use Rattle.actx_parse.proofs.LexPlaces.{sign_small, sign_last, front_of, at_three, within}
 
 -- the sign that a text begins with
 abbrev pub sign_of : List ℕ → Option Sign
@@ -31,7 +32,7 @@ three : (x y z a b c : ℕ) → eqb a x ≡ true → (eqb b y && eqb c z) ≡ tr
 three x y z a b c e f = let p = eqb-true a x e in let q = eqb-true b y (and_parts (eqb b y) (eqb c z) f).0 in let r = eqb-true c z (and_parts (eqb b y) (eqb c z) f).1 in cc
 
 dot_reads : (a b c : ℕ) → eqb a 46 ≡ true → Reads a b c (dot_sign b c)
-dot_reads a b c e = cond_both (eqb b 46 && eqb c 46) None _ (Reads a b c) (λ f. tt) (λ _. one 46 a e)
+dot_reads a b c e = cond_both (is_digit b) None _ (Reads a b c) (λ f. tt) (λ _. cond_both (eqb b 46 && eqb c 46) None _ (Reads a b c) (λ f. tt) (λ _. one 46 a e))
 
 question_reads : (a b c : ℕ) → eqb a 63 ≡ true → Reads a b c (question_sign b c)
 question_reads a b c e = cond_both (eqb b 46) None _ (Reads a b c) (λ f. tt) (λ _. cond_both (eqb b 63 && eqb c 61) None _ (Reads a b c) (λ f. tt) (λ _. cond_both (eqb b 63) (Some s.Coalesce) _ (Reads a b c) (λ f. two 63 63 a b e f) (λ _. one 63 a e)))
@@ -276,93 +277,6 @@ sign_longest s rest e x y cut some lexeme =
     let fits : Fits (Some s) (length (sign_text s ++ x)) = subst (λ o. Fits o (length (sign_text s ++ x))) (ap sign_of (sym whole) ∙ e) (lexeme_fits (sign_text s ++ x) lexeme first y) in
     omega (arith, fits, length-append (sign_text s) x, some_more x some)
 
--- each sign is of three characters at most, and none is 0
-sign_small : (s : Sign) → length (sign_text s) ≤ 3
-sign_small s.OpenBrace = lit≤ tt
-sign_small s.CloseBrace = lit≤ tt
-sign_small s.OpenParen = lit≤ tt
-sign_small s.CloseParen = lit≤ tt
-sign_small s.OpenBracket = lit≤ tt
-sign_small s.CloseBracket = lit≤ tt
-sign_small s.Dot = lit≤ tt
-sign_small s.Comma = lit≤ tt
-sign_small s.Semicolon = lit≤ tt
-sign_small s.Colon = lit≤ tt
-sign_small s.Question = lit≤ tt
-sign_small s.Arrow = lit≤ tt
-sign_small s.Assign = lit≤ tt
-sign_small s.AddAssign = lit≤ tt
-sign_small s.SubAssign = lit≤ tt
-sign_small s.MulAssign = lit≤ tt
-sign_small s.Increment = lit≤ tt
-sign_small s.Decrement = lit≤ tt
-sign_small s.Plus = lit≤ tt
-sign_small s.Minus = lit≤ tt
-sign_small s.Star = lit≤ tt
-sign_small s.Not = lit≤ tt
-sign_small s.Less = lit≤ tt
-sign_small s.LessSame = lit≤ tt
-sign_small s.More = lit≤ tt
-sign_small s.MoreSame = lit≤ tt
-sign_small s.Same = lit≤ tt
-sign_small s.NotSame = lit≤ tt
-sign_small s.And = lit≤ tt
-sign_small s.Or = lit≤ tt
-sign_small s.Coalesce = lit≤ tt
-
-sign_last : (s : Sign) → 0 < get_or (sign_text s) (length (sign_text s) - 1) 0
-sign_last s.OpenBrace = lit< tt
-sign_last s.CloseBrace = lit< tt
-sign_last s.OpenParen = lit< tt
-sign_last s.CloseParen = lit< tt
-sign_last s.OpenBracket = lit< tt
-sign_last s.CloseBracket = lit< tt
-sign_last s.Dot = lit< tt
-sign_last s.Comma = lit< tt
-sign_last s.Semicolon = lit< tt
-sign_last s.Colon = lit< tt
-sign_last s.Question = lit< tt
-sign_last s.Arrow = lit< tt
-sign_last s.Assign = lit< tt
-sign_last s.AddAssign = lit< tt
-sign_last s.SubAssign = lit< tt
-sign_last s.MulAssign = lit< tt
-sign_last s.Increment = lit< tt
-sign_last s.Decrement = lit< tt
-sign_last s.Plus = lit< tt
-sign_last s.Minus = lit< tt
-sign_last s.Star = lit< tt
-sign_last s.Not = lit< tt
-sign_last s.Less = lit< tt
-sign_last s.LessSame = lit< tt
-sign_last s.More = lit< tt
-sign_last s.MoreSame = lit< tt
-sign_last s.Same = lit< tt
-sign_last s.NotSame = lit< tt
-sign_last s.And = lit< tt
-sign_last s.Or = lit< tt
-sign_last s.Coalesce = lit< tt
-
-front_of : (text : List ℕ) (n : ℕ) → n ≤ 3 → n ≤ length text → take n (get_or text 0 0 ∷ get_or text 1 0 ∷ get_or text 2 0 ∷ []) ≡ take n text
-front_of text zero small fits = refl
-front_of [] (suc n) small fits = absurd (omega arith)
-front_of (a ∷ text) (suc zero) small fits = refl
-front_of (a ∷ []) (suc (suc n)) small fits = absurd (omega arith)
-front_of (a ∷ b ∷ text) (suc (suc zero)) small fits = refl
-front_of (a ∷ b ∷ []) (suc (suc (suc n))) small fits = absurd (omega arith)
-front_of (a ∷ b ∷ c ∷ text) (suc (suc (suc zero))) small fits = refl
-front_of (a ∷ b ∷ c ∷ text) (suc (suc (suc (suc n)))) small fits = absurd (omega arith)
-
-at_three : (text : List ℕ) (i : ℕ) → i < 3 → get_or (get_or text 0 0 ∷ get_or text 1 0 ∷ get_or text 2 0 ∷ []) i 0 ≡ get_or text i 0
-at_three text zero lt = refl
-at_three text (suc zero) lt = refl
-at_three text (suc (suc zero)) lt = refl
-at_three text (suc (suc (suc i))) lt = absurd (omega arith)
-
-within : (text : List ℕ) (i : ℕ) → 0 < get_or text i 0 → i < length text
-within text i h =
-    elim (cases_lt i (length text)) [ inl lt ↦ lt | inr le ↦ absurd (let e = get_or_past text i 0 le in omega arith) ]
-
 sign_within : (text : List ℕ) (s : Sign) → sign_of text ≡ Some s → length (sign_text s) ≤ length text
 sign_within text s e =
     let w = reads_some (get_or text 0 0) (get_or text 1 0) (get_or text 2 0) s e in
@@ -377,6 +291,29 @@ sign_within text s e =
     let lt = within text (n - 1) (omega arith) in
     omega arith
 
+-- a dot is found only where no digit follows
+dot_sign_free : (b c : ℕ) → dot_sign b c ≡ Some s.Dot → is_digit b ≡ false
+dot_sign_free b c e =
+    elim (cases_Bool (is_digit b)) [
+      | inl h ↦ let f : dot_sign b c ≡ None = cond-true (is_digit b) None _ h in cc
+      | inr h ↦ h
+    ]
+
+dot_free : (a b c : ℕ) → longest_sign a b c ≡ Some s.Dot → is_digit b ≡ false
+dot_free a b c e =
+    let first : a ≡ 46 = sym (ap (λ v. get_or v 0 0) (reads_some a b c s.Dot e)) in
+    dot_sign_free b c (subst (λ x. longest_sign x b c ≡ Some s.Dot) first e)
+
+second_free : (text : List ℕ) → is_digit (get_or text 1 0) ≡ false → IsTrue (begins_no_digit (drop 1 text))
+second_free [] h = refl
+second_free (a ∷ []) h = refl
+second_free (a ∷ b ∷ text) h = cond-false (is_digit b) false true h
+
+sign_follows : (text : List ℕ) (sign : Sign) → sign_of text ≡ Some sign → sign ≡ s.Dot → IsTrue (begins_no_digit (drop (length (sign_text sign)) text))
+sign_follows text sign e dot =
+    subst (λ v. IsTrue (begins_no_digit (drop (length (sign_text v)) text))) (sym dot)
+    (second_free text (dot_free (get_or text 0 0) (get_or text 1 0) (get_or text 2 0) (e ∙ ap (λ v. Some v) dot)))
+
 pub sign_begins : (text : List ℕ) (s : Sign) → longest_sign (get_or text 0 0) (get_or text 1 0) (get_or text 2 0) ≡ Some s → Begins text (t.Sign s) (length (sign_text s))
 sign_begins text s e =
     let n = length (sign_text s) in
@@ -387,5 +324,5 @@ sign_begins text s e =
       fits = fits;
       token = subst (IsToken (t.Sign s)) front (sign_token s);
       longest = subst (λ v. IsLongest v (drop n text)) front (sign_longest s (drop n text) (ap sign_of whole ∙ e));
-      follows = tt;
+      follows = sign_follows text s e;
     }

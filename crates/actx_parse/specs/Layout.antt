@@ -2,6 +2,7 @@
 use Rattle.std.specs.Prelude.{ℕ, ◌+◌, ◌/◌, ◌%◌, List, [], ◌∷◌, ◌++◌, Bool, true, false, ◌==◌, ◌||◌, ◌&&◌, nat_le, nat_lt, if◌then◌else◌, flat_map, decimal}
 use Rattle.std.specs.Prelude.{encode_utf8}
 use Rattle.actx_parse.specs.declared.token.Sign.TheVariants as s
+use Rattle.actx_parse.specs.declared.token.Token.{Token}
 use Rattle.actx_parse.specs.declared.token.TokenKind.{TokenKind}
 use Rattle.actx_parse.specs.declared.token.TokenKind.TheVariants as t
 use Rattle.actx_parse.specs.Lexical.{keyword_text, sign_text}
@@ -31,6 +32,14 @@ ends_line (t.Sign s.Semicolon) = true
 ends_line (t.Sign s.OpenBrace) = true
 ends_line (t.Sign s.CloseBrace) = true
 ends_line _ = false
+
+-- the tokens as they are read from their text: a line end stands before each that is behind the end of a line
+abbrev pub laid_from : Bool → List TokenKind → List Token
+laid_from broken [] = []
+laid_from broken (t ∷ ts) = record { kind = t; line_before = broken } ∷ laid_from (ends_line t) ts
+
+abbrev pub laid : List TokenKind → List Token
+laid ts = laid_from false ts
 
 abbrev pub gap_after : TokenKind → ℕ
 gap_after t = if ends_line t then 10 else 32

@@ -4,7 +4,7 @@ use Rattle.std.specs.Str.Parse.{digits_value}
 use Rattle.actx_parse.specs.declared.token.Sign.{Sign}
 use Rattle.actx_parse.specs.declared.token.Sign.TheVariants as s
 use Rattle.actx_parse.specs.declared.token.TokenKind.{TokenKind}
-use Rattle.actx_parse.specs.Lexical.{IsToken, IsLongest, MayFollow, greatest_number}
+use Rattle.actx_parse.specs.Lexical.{is_digit, IsToken, IsLongest, MayFollow, greatest_number}
 
 -- the text begins with a token of this kind, which is n characters long
 pub record Begins (text : List ℕ) (k : TokenKind) (n : ℕ) : Type 0 where
@@ -14,9 +14,9 @@ pub record Begins (text : List ℕ) (k : TokenKind) (n : ℕ) : Type 0 where
   pub follows : MayFollow k (drop n text)
 
 -- SIGNS: which sign the longest punctuator is that begins with a character and goes on with b and c
--- `.`
+-- `.`, which begins a number where a digit follows
 abbrev pub dot_sign : ℕ → ℕ → Option Sign
-dot_sign b c = if (b == 46) && (c == 46) then None else Some s.Dot
+dot_sign b c = if is_digit b then None else (if (b == 46) && (c == 46) then None else Some s.Dot)
 
 -- `?`
 abbrev pub question_sign : ℕ → ℕ → Option Sign

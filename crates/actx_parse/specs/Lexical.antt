@@ -3,10 +3,13 @@
 use Rattle.std.specs.Prelude.{◌≡◌, ◌≢◌, ℕ, ◌≤◌, Bool, true, false, ◌==◌, ◌&&◌, ◌||◌, nat_le, IsTrue, List, [], ◌∷◌, ◌++◌, All, Contains, ◌⊎◌, codes, if◌then◌else◌}
 use Rattle.std.specs.Cmp.Lexicographic.{pointwise}
 use Rattle.std.specs.Str.Parse.{digits_value}
+use Rattle.actx_parse.specs.declared.lines.Before.{Before}
+use Rattle.actx_parse.specs.declared.lines.Before.TheVariants as before
 use Rattle.actx_parse.specs.declared.token.Keyword.{Keyword}
 use Rattle.actx_parse.specs.declared.token.Keyword.TheVariants as k
 use Rattle.actx_parse.specs.declared.token.Sign.{Sign}
 use Rattle.actx_parse.specs.declared.token.Sign.TheVariants as s
+use Rattle.actx_parse.specs.declared.token.Token.{Token}
 use Rattle.actx_parse.specs.declared.token.TokenKind.{TokenKind}
 use Rattle.actx_parse.specs.declared.token.TokenKind.TheVariants as t
 
@@ -195,15 +198,51 @@ abbrev pub begins_free : List ℕ → Bool
 begins_free [] = true
 begins_free (c ∷ cs) = if is_name_part c || (c == 46) then false else true
 
+-- a dot has no digit directly after it: a number begins there then, and none of that form is taken (12.9.3)
+abbrev pub begins_no_digit : List ℕ → Bool
+begins_no_digit [] = true
+begins_no_digit (c ∷ cs) = if is_digit c then false else true
+
 abbrev pub MayFollow : TokenKind → List ℕ → Type 0
 MayFollow (t.Number n) rest = IsTrue (begins_free rest)
+MayFollow (t.Sign sign) rest = sign ≡ s.Dot → IsTrue (begins_no_digit rest)
 MayFollow _ rest = Unit {0}
 
--- the text is cut into blanks and tokens, each token the longest that begins at its place
-pub data Tokens : List ℕ → List TokenKind → Type 0 where
-  at_end : Tokens [] []
-  at_blank : {c : ℕ} {cs : List ℕ} {ts : List TokenKind} → IsTrue (is_blank c) → Tokens cs ts → Tokens (c ∷ cs) ts
-  at_token : {k : TokenKind} {w rest : List ℕ} {ts : List TokenKind} → IsToken k w → IsLongest w rest → MayFollow k rest → Tokens rest ts → Tokens (w ++ rest) (k ∷ ts)
+-- the text, behind a line end or not, is cut into blanks and tokens, each token the longest that begins at its place
+pub data TokensFrom : Bool → List ℕ → List Token → Type 0 where
+  at_end : {broken : Bool} → TokensFrom broken [] []
+  at_blank : {broken : Bool} {c : ℕ} {cs : List ℕ} {ts : List Token} → IsTrue (is_blank c) → TokensFrom (broken || (c == 10)) cs ts → TokensFrom broken (c ∷ cs) ts
+  at_token : {broken : Bool} {k : TokenKind} {w rest : List ℕ} {ts : List Token} → IsToken k w → IsLongest w rest → MayFollow k rest → TokensFrom false rest ts → TokensFrom broken (w ++ rest) (record { kind = k; line_before = broken } ∷ ts)
+
+abbrev pub Tokens : List ℕ → List Token → Type 0
+Tokens text ts = TokensFrom false text ts
+
+abbrev pub kinds_of : List Token → List TokenKind
+kinds_of [] = []
+kinds_of (t ∷ ts) = t.kind ∷ kinds_of ts
+
+-- RESTRICTED PRODUCTIONS (12.10.1): no line end stands before =>, nor between `return` and what it returns
+-- what stands before the next token: a word behind a dot is a key
+abbrev pub before_next : Before → TokenKind → Before
+before_next before.Dot k = before.Other
+before_next b (t.Sign s.Dot) = before.Dot
+before_next b (t.Keyword k.Return) = before.Return
+before_next b k = before.Other
+
+-- whether a token may stand behind a line end; a key of a literal is followed by a colon
+abbrev pub may_break : Before → TokenKind → Bool
+may_break b (t.Sign s.Arrow) = false
+may_break before.Return (t.Sign s.Semicolon) = true
+may_break before.Return (t.Sign s.Colon) = true
+may_break before.Return k = false
+may_break b k = true
+
+abbrev pub is_unbroken : Before → List Token → Bool
+is_unbroken b [] = true
+is_unbroken b (t ∷ ts) = (if t.line_before then may_break b t.kind else true) && is_unbroken (before_next b t.kind) ts
+
+abbrev pub Unbroken : List Token → Type 0
+Unbroken ts = IsTrue (is_unbroken before.Other ts)
 
 -- a token of its kind's form
 abbrev pub HasForm : TokenKind → Type 0

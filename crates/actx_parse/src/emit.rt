@@ -2,8 +2,10 @@
 
 ghost use Rattle.std.specs.Prelude.{◌≡◌, ◌++◌, ◌<◌, ℕ, List, All, IfOk, OnOk, string_bytes, encode_utf8, flat_map, decimal, if◌then◌else◌, ◌∷◌, [], ◌/◌, ◌%◌};
 ghost use Rattle.actx_parse.specs.declared.token.TokenKind.{TokenKind};
-ghost use Rattle.actx_parse.specs.Lexical.{Tokens, HasForm};
+ghost use Rattle.actx_parse.specs.Lexical.{Tokens, HasForm, Unbroken};
 ghost use Rattle.actx_parse.specs.Layout as spec;
+ghost use Rattle.actx_parse.specs.Spell.{spell_program};
+ghost use Rattle.actx_parse.specs.Tree.{Stmts};
 
 use super::name::Name;
 use super::token::{Sign, TokenKind};
@@ -30,9 +32,14 @@ pub fn emit(alloc: Global, tokens: &[TokenKind]) -> Result<Vec<u8>, NoMemory>
     Ok(text.into_bytes())
 }
 
-/// Tokens that have the form of their kinds are read again from their text.
+/// Tokens that have the form of their kinds are read again from their text, with its line ends.
 pub fn printed_reads_back()
-    ensures { (ts : List TokenKind) → All HasForm ts → Tokens (spec.layout ts) ts }
+    ensures { (ts : List TokenKind) → All HasForm ts → Tokens (spec.layout ts) (spec.laid ts) }
+{}
+
+/// No line of a printed program ends where none may: before `=>`, or between `return` and what it returns.
+pub fn printed_is_unbroken()
+    ensures { (p : Stmts) → Unbroken (spec.laid (spell_program p)) }
 {}
 
 /// What stands behind a token.

@@ -2,13 +2,14 @@
 
 ghost use Rattle.std.specs.Prelude.{◌≡◌, ◌==◌, ℕ, List, length, slice_index, take, All, IsTrue, IfOk, IfSome, IfNone, IsErrOf, MatchOption, false, ◌≢◌, ◌<◌, ◌≤◌};
 ghost use Rattle.std.specs.List.{prefix_len};
+ghost use Rattle.actx_parse.specs.declared.token.Token.{Token};
 ghost use Rattle.actx_parse.specs.declared.token.TokenKind.{TokenKind};
 ghost use Rattle.actx_parse.specs.declared.lex.LexFault.TheVariants.{NoMemory as no_memory};
 ghost use Rattle.actx_parse.specs.Lexical as spec;
 ghost use Rattle.actx_parse.specs.Lexeme.{Begins, number_of};
 
 use super::name::Name;
-use super::token::TokenKind;
+use super::token::{Token, TokenKind};
 use super::words::{keyword_of, longest_sign, sign_text};
 use actx_data::{NoMemory, Units};
 use std::alloc::{AllocError, AllocFailed, Global};
@@ -52,27 +53,31 @@ struct Lexeme {
     len: usize,
 }
 
-/// The tokens of a text, each the longest that begins at its place (ECMA-262, 12).
+/// The tokens of a text, each the longest that begins at its place (ECMA-262, 12), with the line ends before them.
 ///
 /// # Errors
 ///
-/// `Refused` where the text can't be cut into tokens, as `1a`, `"a` and `a # b` can't, and `NoMemory` where memory
+/// `Refused` where the text can't be cut into tokens, as `1a`, `.5`, `"a` and `a # b` can't, and `NoMemory` where memory
 /// runs out.
-pub fn lex(alloc: Global, text: &[u8]) -> Result<Vec<TokenKind>, LexFault>
+pub fn lex(alloc: Global, text: &[u8]) -> Result<Vec<Token>, LexFault>
     ensures found { IfOk result (λ v. spec.Tokens text.now v.items) }
-    ensures form { IfOk result (λ v. All spec.HasForm v.items) }
-    ensures only { (ts : List TokenKind) → spec.Tokens text.now ts → IfOk result (λ v. v.items ≡ ts) }
-    ensures refused { IsErrOf result LexFault.Refused → (ts : List TokenKind) → spec.Tokens text.now ts → ⊥ }
+    ensures form { IfOk result (λ v. All spec.HasForm (spec.kinds_of v.items)) }
+    ensures only { (ts : List Token) → spec.Tokens text.now ts → IfOk result (λ v. v.items ≡ ts) }
+    ensures refused { IsErrOf result LexFault.Refused → (ts : List Token) → spec.Tokens text.now ts → ⊥ }
 {
     let mut tokens = Vec::new(alloc);
     let mut rest = text;
+    let mut line_before = false;
     while !rest.is_empty() {
         if is_blank(rest[0]) {
+            line_before = line_before || rest[0] == b'\n';
             rest = &rest[1..];
         } else {
             let lexeme = first_lexeme(alloc, rest)?;
             rest = &rest[lexeme.len..];
-            tokens.push(lexeme.kind)?;
+            let kind = lexeme.kind;
+            tokens.push(Token { kind, line_before })?;
+            line_before = false;
         }
     }
     Ok(tokens)

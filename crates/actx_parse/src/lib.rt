@@ -5,6 +5,7 @@ pub mod check;
 mod copy;
 pub mod emit;
 pub mod lex;
+pub mod lines;
 pub mod name;
 pub mod parse;
 pub mod read;

@@ -1,4 +1,4 @@
-//! Texts as programs: `const a = 1;` is read as a program of one constant, and `const a = a;` is refused.
+//! Texts as programs: `const a = 1;` is read as a program of one constant, and `const a = b;` is refused.
 
 ghost use Rattle.std.specs.Prelude.{◌≡◌, IfOk, IsErrOf};
 ghost use Rattle.actx_parse.specs.Accepts.{Accepts, ReadsPlain};
@@ -9,6 +9,7 @@ ghost use Rattle.actx_parse.specs.declared.read.ReadFault.TheVariants as fault;
 
 use crate::check::check;
 use crate::lex::{LexFault, lex};
+use crate::lines::unbroken;
 use crate::parse::{ParseFault, parse_plain, parse_source};
 use crate::tree::Program;
 use std::alloc::Global;
@@ -62,8 +63,8 @@ impl From<ParseFault> for ReadFault {
 ///
 /// # Errors
 ///
-/// `Refused` where the text has more than 1,048,576 bytes, is no program of the grammar, doesn't keep the static rules
-/// or has forms that aren't taken; `NoMemory` where memory runs out.
+/// `Refused` where the text has more than 1,048,576 bytes, has a line end where none may stand, is no program of the
+/// grammar, doesn't keep the static rules or has forms that aren't taken; `NoMemory` where memory runs out.
 pub fn read_program(alloc: Global, text: &[u8]) -> Result<Program, ReadFault>
     ensures found { IfOk result (λ p. Accepts text.now (program_view p)) }
     ensures only { (p : Stmts) → Accepts text.now p → IfOk result (λ r. program_view r ≡ p) }
@@ -73,6 +74,9 @@ pub fn read_program(alloc: Global, text: &[u8]) -> Result<Program, ReadFault>
         return Err(ReadFault::Refused);
     }
     let tokens = lex(alloc, text)?;
+    if !unbroken(&tokens) {
+        return Err(ReadFault::Refused);
+    }
     let program = parse_source(alloc, &tokens)?;
     if !check(alloc, &program)? {
         return Err(ReadFault::Refused);
@@ -84,13 +88,16 @@ pub fn read_program(alloc: Global, text: &[u8]) -> Result<Program, ReadFault>
 ///
 /// # Errors
 ///
-/// `Refused` where the text is no plain program; `NoMemory` where memory runs out.
+/// `Refused` where the text has a line end where none may stand or is no plain program; `NoMemory` where memory runs out.
 pub fn read_plain(alloc: Global, text: &[u8]) -> Result<Program, ReadFault>
     ensures found { IfOk result (λ p. ReadsPlain text.now (program_view p)) }
     ensures only { (p : Stmts) → ReadsPlain text.now p → IfOk result (λ r. program_view r ≡ p) }
     ensures refused { IsErrOf result ReadFault.Refused → (p : Stmts) → ReadsPlain text.now p → ⊥ }
 {
     let tokens = lex(alloc, text)?;
+    if !unbroken(&tokens) {
+        return Err(ReadFault::Refused);
+    }
     Ok(parse_plain(alloc, &tokens)?)
 }
 
@@ -105,12 +112,18 @@ mod tests {
         assert_eq!(rt; taken.body.len(), 2);
         let plain = read_plain(rt.alloc(), b"const a = a;")?;
         assert_eq!(rt; plain.body.len(), 1);
-        let early = read_program(rt.alloc(), b"const a = a;");
-        assert!(rt; matches!(early, Err(ReadFault::Refused)));
+        let unknown = read_program(rt.alloc(), b"const a = b;");
+        assert!(rt; matches!(unknown, Err(ReadFault::Refused)));
         let cut = read_program(rt.alloc(), b"const a = 1 # 2;");
         assert!(rt; matches!(cut, Err(ReadFault::Refused)));
         let unended = read_program(rt.alloc(), b"const a = 1");
         assert!(rt; matches!(unended, Err(ReadFault::Refused)));
+        let arrow = read_plain(rt.alloc(), b"const a = ()\n=> {};");
+        assert!(rt; matches!(arrow, Err(ReadFault::Refused)));
+        let returned = read_plain(rt.alloc(), b"const a = () => { return\n1; };");
+        assert!(rt; matches!(returned, Err(ReadFault::Refused)));
+        let broken = read_plain(rt.alloc(), b"const\na\n=\n()=>\n{\nreturn\n;\n}\n;")?;
+        assert_eq!(rt; broken.body.len(), 1);
         Ok(())
     }
 }

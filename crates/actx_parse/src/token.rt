@@ -133,3 +133,10 @@ pub enum TokenKind {
     Text(Units),
     Sign(Sign),
 }
+
+/// A token, and whether a line end stands between it and the token before it.
+#[derive(Debug, Drop)]
+pub struct Token {
+    pub kind: TokenKind,
+    pub line_before: bool,
+}

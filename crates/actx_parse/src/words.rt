@@ -166,7 +166,7 @@ pub fn sign_text(sign: Sign) -> &'static str
 }
 
 /// The sign that begins with these bytes, where 0 stands past the end of the text; `None` where no punctuator begins
-/// there, or the longest one is no token of ours, as `==`, `**` and `?.` are.
+/// there, the longest one is no token of ours, as `==`, `**` and `?.` are, or a dot begins a number.
 pub fn longest_sign(first: u8, second: u8, third: u8) -> Option<Sign>
     ensures { result ≡ lexeme.longest_sign first second third }
 {
@@ -180,6 +180,7 @@ pub fn longest_sign(first: u8, second: u8, third: u8) -> Option<Sign>
         b',' => Some(Sign::Comma),
         b';' => Some(Sign::Semicolon),
         b':' => Some(Sign::Colon),
+        b'.' if b'0' <= second && second <= b'9' => None,
         b'.' if second == b'.' && third == b'.' => None,
         b'.' => Some(Sign::Dot),
         b'?' if second == b'.' => None,

@@ -1,49 +1,30 @@
--- The renaming of one part, item or statement more.
-use Rattle.std.proofs.Common.{◌≡◌, List, [], ◌∷◌, ◌++◌, ap, ◌∙◌}
-use Rattle.std.specs.Prelude.{codes}
+-- Lists of the code's trees that are renamed one by one.
+use Rattle.std.proofs.Common.{◌≡◌, List, [], ◌∷◌, ◌++◌, map, refl, ap}
 use Rattle.actx_parse.specs.Tree as t
-use Rattle.actx_parse.specs.View.{expr_view, exprs_view, items_view, stmt_view, stmts_view}
+use Rattle.actx_parse.specs.View.{expr_view, exprs_of, exprs_view, item_view, items_of, items_view, property_view, properties_of, properties_view, stmt_view, stmts_of, stmts_view}
 use Rattle.actx_parse.specs.declared.tree.Expr.{Expr}
 use Rattle.actx_parse.specs.declared.tree.ConstItem.{ConstItem}
+use Rattle.actx_parse.specs.declared.tree.Property.{Property}
 use Rattle.actx_parse.specs.declared.tree.Stmt.{Stmt}
-use Rattle.actx_top.specs.Low.{p_, renamed, all_renamed, items_renamed, stmt_renamed, program_renamed, low}
+use Rattle.actx_top.specs.Low.{p_, renamed, all_renamed, properties_renamed, items_renamed, stmt_renamed, program_renamed, followed_by}
 
-pub renamed_last : (es ds : List Expr) (e d : Expr) → exprs_view ds ≡ all_renamed (exprs_view es) → expr_view d ≡ renamed (expr_view e) → exprs_view (ds ++ d ∷ []) ≡ all_renamed (exprs_view (es ++ e ∷ []))
-renamed_last [] [] e d h one = ap (λ x. t.also x t.none) one
-renamed_last [] (x ∷ ds) e d h one = absurd cc
-renamed_last (x ∷ es) [] e d h one = absurd cc
-renamed_last (x ∷ es) (y ∷ ds) e d h one =
-    let first : expr_view y ≡ renamed (expr_view x) = cc in
-    let rest : exprs_view ds ≡ all_renamed (exprs_view es) = cc in
-    let more = renamed_last es ds e d rest one in
-    cc
+pub exprs_each : (es : List Expr) → exprs_of (map (λ e. renamed (expr_view e)) es) ≡ all_renamed (exprs_view es)
+exprs_each [] = refl
+exprs_each (e ∷ es) = ap (t.also (renamed (expr_view e))) (exprs_each es)
 
-pub items_renamed_last : (is js : List ConstItem) (i j : ConstItem) → items_view js ≡ items_renamed (items_view is) → j.name ≡ p_ i.name → expr_view j.value ≡ renamed (expr_view i.value) → items_view (js ++ j ∷ []) ≡ items_renamed (items_view (is ++ i ∷ []))
-items_renamed_last [] [] i j h name one = ap (λ x. t.item x (expr_view j.value) t.no_items) name ∙ ap (λ e. t.item (p_ i.name) e t.no_items) one
-items_renamed_last [] (x ∷ js) i j h name one = absurd cc
-items_renamed_last (x ∷ is) [] i j h name one = absurd cc
-items_renamed_last (x ∷ is) (y ∷ js) i j h name one =
-    let a : y.name ≡ p_ x.name = cc in
-    let b : expr_view y.value ≡ renamed (expr_view x.value) = cc in
-    let rest : items_view js ≡ items_renamed (items_view is) = cc in
-    let more = items_renamed_last is js i j rest name one in
-    cc
+pub properties_each : (ps : List Property) → properties_of (map (λ p. ((property_view p).0, renamed (property_view p).1)) ps) ≡ properties_renamed (properties_view ps)
+properties_each [] = refl
+properties_each (p ∷ ps) = ap (t.property (property_view p).0 (renamed (property_view p).1)) (properties_each ps)
 
-pub statements_renamed_last : (ss ts : List Stmt) (s r : Stmt) → stmts_view ts ≡ program_renamed (stmts_view ss) → stmt_view r ≡ stmt_renamed (stmt_view s) → stmts_view (ts ++ r ∷ []) ≡ program_renamed (stmts_view (ss ++ s ∷ []))
-statements_renamed_last [] [] s r h one = ap (λ x. t.next x t.end) one
-statements_renamed_last [] (x ∷ ts) s r h one = absurd cc
-statements_renamed_last (x ∷ ss) [] s r h one = absurd cc
-statements_renamed_last (x ∷ ss) (y ∷ ts) s r h one =
-    let first : stmt_view y ≡ stmt_renamed (stmt_view x) = cc in
-    let rest : stmts_view ts ≡ program_renamed (stmts_view ss) = cc in
-    let more = statements_renamed_last ss ts s r rest one in
-    cc
+pub items_each : (is : List ConstItem) → items_of (map (λ i. (p_ (item_view i).0, renamed (item_view i).1)) is) ≡ items_renamed (items_view is)
+items_each [] = refl
+items_each (i ∷ is) = ap (t.item (p_ (item_view i).0) (renamed (item_view i).1)) (items_each is)
 
--- and behind the prelude
-pub low_last : (ss bs : List Stmt) (s r : Stmt) → stmts_view bs ≡ low (stmts_view ss) → stmt_view r ≡ stmt_renamed (stmt_view s) → stmts_view (bs ++ r ∷ []) ≡ low (stmts_view (ss ++ s ∷ []))
-low_last ss [] s r h one = absurd cc
-low_last ss (b ∷ bs) s r h one =
-    let first : stmt_view b ≡ t.Value (t.Text (codes "use strict")) = cc in
-    let rest : stmts_view bs ≡ program_renamed (stmts_view ss) = cc in
-    let more = statements_renamed_last ss bs s r rest one in
-    ap (λ z. t.next z (stmts_view (bs ++ r ∷ []))) first ∙ ap (t.next (t.Value (t.Text (codes "use strict")))) more
+pub statements_each : (ss : List Stmt) → stmts_of (map (λ st. stmt_renamed (stmt_view st)) ss) ≡ program_renamed (stmts_view ss)
+statements_each [] = refl
+statements_each (st ∷ ss) = ap (t.next (stmt_renamed (stmt_view st))) (statements_each ss)
+
+-- one list behind another
+pub followed : (xs ys : List Stmt) → stmts_view (xs ++ ys) ≡ followed_by (stmts_view xs) (stmts_view ys)
+followed [] ys = refl
+followed (st ∷ xs) ys = ap (t.next (stmt_view st)) (followed xs ys)

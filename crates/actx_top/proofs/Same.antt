@@ -1,5 +1,14 @@
 pub mod Growth
 pub mod Names
 pub mod Shown
+pub mod Stores
+pub mod Variables
+pub mod Joins
+pub mod Methods
+pub mod Making
+pub mod Calls
 pub mod Rows
+pub mod Steps
+pub mod Image
+pub mod Start
 pub mod Theorem

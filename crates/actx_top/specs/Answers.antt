@@ -1,13 +1,21 @@
 -- The answers of the top call, and when each comes.
-use Rattle.std.specs.Prelude.{◌≡◌, ℕ, Bool, false, ◌==◌, ◌&&◌, not, ◌⊎◌, List, [], ◌∷◌, ◌++◌, Option, codes}
+use Rattle.std.specs.Prelude.{◌≡◌, ℕ, Bool, false, ◌==◌, ◌&&◌, not, ◌⊎◌, List, [], ◌∷◌, ◌++◌, Option, codes, decimal}
+use Rattle.std.specs.Char.Utf16.{utf16_lossy_chars}
+use Rattle.std.specs.Fmt.{signed_decimal}
+use Rattle.std.specs.Str.{encode_utf8_all}
+use Rattle.json.specs.Print.{quoted}
 use Rattle.actx_match.specs.Traced.{Seen}
 use Rattle.actx_ports.specs.Ports.{AddsAll, AddsPart, Rose}
 use Rattle.actx_data.specs.declared.end.End.{End}
 use Rattle.actx_data.specs.declared.end.End.TheVariants.{Going, Ended, Threw, Left}
+use Rattle.actx_data.specs.declared.shown.Shown.{Shown}
+use Rattle.actx_data.specs.declared.shown.Shown.TheVariants as h
 use Rattle.actx_data.specs.declared.trace.TraceEvent.{TraceEvent}
 use Rattle.actx_parse.specs.Lexical.{same_text}
 use Rattle.actx_parse.specs.Tree.{Stmts}
 use Rattle.actx_top.specs.Low.{low}
+use Rattle.actx_top.specs.Operators.{truth_text}
+use Rattle.actx_top.specs.Properties.{error_text}
 use Rattle.actx_top.specs.Meaning.{target_shows, lines_of}
 
 -- WORDS: a mode, and a file whose name doesn't begin with -
@@ -39,10 +47,6 @@ status_of (Threw v) = 1
 status_of Left = 4
 status_of Going = 5
 
-abbrev pub IsThrow : End → Type 0
-IsThrow (Threw v) = Unit {0}
-IsThrow _ = ⊥
-
 -- what a run with these lines, whose end has this status, makes of the answer and the output
 pub record Wrote (answer status : ℕ) (lines : List ℕ) (before after : Option (List ℕ)) : Type 0 where
   -- the answer is the status of the run's end, or the output couldn't be written, or memory was wanting
@@ -58,10 +62,26 @@ pub record Ran (answer : ℕ) (p : Stmts) (before after : Option (List ℕ)) : T
   pub whole : answer ≡ status_of (run_shows p).end → AddsAll before (lines_of (run_shows p).trace) after
   pub part : AddsPart before (lines_of (run_shows p).trace) after
 
+-- SHOWN VALUES
+-- the UTF-8 of units, with U+FFFD for a surrogate without its partner, as a JSON string
+abbrev pub text_shown : List ℕ → List ℕ
+text_shown u = quoted (encode_utf8_all (utf16_lossy_chars u))
+
+-- a value as a line shows it: a text as a JSON string, an object by its number, and an error with its name and message
+abbrev pub shown_text : Shown → List ℕ
+shown_text h.Undefined = codes "undefined"
+shown_text h.Null = codes "null"
+shown_text (h.Truth b) = truth_text b
+shown_text (h.Num z) = signed_decimal z
+shown_text (h.Text u) = text_shown u
+shown_text (h.Object n) = codes "#" ++ decimal n
+shown_text (h.Failure n name message) = codes "#" ++ (decimal n ++ (codes " " ++ (error_text name ++ (codes " " ++ text_shown message))))
+
 -- FAULT LINES
 pub data Fault : Type 0 where
   BadWords : Fault
   NotYet : (file : List ℕ) → Fault
+  ThrewValue : (shown : Shown) → Fault
   LeftProfile : Fault
   StillGoing : Fault
   CannotRead : (file : List ℕ) → Fault
@@ -71,6 +91,7 @@ pub data Fault : Type 0 where
 abbrev pub fault_line : Fault → List ℕ
 fault_line BadWords = codes "actx: usage: actx MODE [FILE] [--events FILE] [--steps N] [--seed N] [--count N]\n"
 fault_line (NotYet file) = codes "actx: " ++ (file ++ codes ":1:1: 13 NotYet\n")
+fault_line (ThrewValue shown) = codes "actx: threw " ++ (shown_text shown ++ codes "\n")
 fault_line LeftProfile = codes "actx: left the profile\n"
 fault_line StillGoing = codes "actx: still going after 20000000 steps\n"
 fault_line (CannotRead file) = codes "actx: cannot read " ++ (file ++ codes "\n")
@@ -81,6 +102,7 @@ fault_line OutOfMemory = codes "actx: out of memory\n"
 abbrev pub fault_status : Fault → ℕ
 fault_status BadWords = 2
 fault_status (NotYet file) = 3
+fault_status (ThrewValue shown) = 1
 fault_status LeftProfile = 4
 fault_status StillGoing = 5
 fault_status (CannotRead file) = 6
@@ -102,6 +124,12 @@ abbrev pub TellsAs : ℕ → Fault → (before after : Option (List ℕ)) → (c
 TellsAs status fault before after count_before count_after =
     ((status ≡ fault_status fault) × Tells fault before after count_before count_after)
     ⊎ ((status ≡ 70) × (AddsPart before (fault_line fault) after ⊎ AddsPart before (fault_line OutOfMemory) after))
+
+-- where a run threw, the line tells its value
+pub record TellsThrow (end : End) (before after : Option (List ℕ)) (count_before count_after : ℕ) : Type 0 where
+  pub shown : Shown
+  pub threw : end ≡ Threw shown
+  pub tells : Tells (ThrewValue shown) before after count_before count_after
 
 -- what is told at a status: nothing at 0, the status's own line, and at 70 some first part of one line
 abbrev pub Explains : ℕ → List ℕ → (before after : Option (List ℕ)) → (count_before count_after : ℕ) → Type 0

@@ -1,20 +1,12 @@
 -- What the code's record of a run stands for.
-use Rattle.std.specs.Prelude.{◌≡◌, ℕ}
+use Rattle.std.specs.Prelude.{◌≡◌}
 use Rattle.actx_match.specs.Traced.{Seen}
 use Rattle.actx_data.specs.declared.end.End.{End}
 use Rattle.actx_data.specs.declared.trace.TraceEvent.{TraceEvent}
-use Rattle.actx_top.specs.Answers.{status_of}
 use Rattle.actx_top.specs.Meaning.{lines_of}
-use Rattle.actx_top.specs.declared.execute.Ending.{Ending}
-use Rattle.actx_top.specs.declared.execute.Ending.TheVariants as e
 use Rattle.actx_top.specs.declared.execute.Run.{Run}
-
-abbrev pub ending_status : Ending → ℕ
-ending_status e.Ended = 0
-ending_status e.Left = 4
-ending_status e.Going = 5
 
 -- the record has the lines and the end of what a run shows
 pub record Ends (run : Run) (seen : Seen TraceEvent End) : Type 0 where
   pub lines : run.lines.items ≡ lines_of seen.trace
-  pub ending : ending_status run.ending ≡ status_of seen.end
+  pub end : run.end ≡ seen.end

@@ -1,7 +1,8 @@
 -- THE HEADLINE
 -- For every accepted program and every list of host events, the emitted text parses as the plain subset, and the two
 -- runs match in both directions: for every bound on the steps of the one there is a bound of the other with the same
--- trace (the lines printed) and the same end (going, ended, threw or left the profile).
+-- trace (the lines printed and the values read from variables) and the same end (going, ended, threw or left the
+-- profile).
 use Rattle.std.specs.Prelude.{ℕ, List}
 use Rattle.actx_parse.specs.Accepts.{Accepts, ReadsPlain}
 use Rattle.actx_parse.specs.Layout.{layout}

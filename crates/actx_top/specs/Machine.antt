@@ -1,186 +1,48 @@
--- One step table for both machines: a row answers a move, and each row is one step (ECMA-262, 13 and 14, restricted).
-use Rattle.std.specs.Prelude.{ℕ, pos, ◌+◌, Bool, true, false, nat_le, nat_eq, List, [], ◌∷◌, ◌++◌, length, Option, Some, None, slice_get, slice_set, if◌then◌else◌}
+-- One step table for both machines: a row answers a move, and each row is one step (ECMA-262, 13 to 15, restricted).
+use Rattle.std.specs.Prelude.{ℕ, pos, suc, Bool, true, false, ◌&&◌, nat_le, List, [], ◌∷◌, ◌++◌, length, Option, Some, None, slice_get, slice_set, codes, if◌then◌else◌}
 use Rattle.actx_data.specs.Number.{greatest}
 use Rattle.actx_data.specs.declared.end.End.{End}
 use Rattle.actx_data.specs.declared.end.End.TheVariants.{Going, Ended, Threw, Left}
 use Rattle.actx_data.specs.declared.event.Event.{Event}
 use Rattle.actx_data.specs.declared.shown.ErrorName.{ErrorName}
-use Rattle.actx_data.specs.declared.shown.ErrorName.TheVariants.{ReferenceError}
-use Rattle.actx_data.specs.declared.shown.Shown.{Shown}
-use Rattle.actx_data.specs.declared.shown.Shown.TheVariants as h
+use Rattle.actx_data.specs.declared.shown.ErrorName.TheVariants.{ReferenceError, TypeError}
 use Rattle.actx_data.specs.declared.trace.TraceEvent.{TraceEvent}
-use Rattle.actx_data.specs.declared.trace.TraceEvent.TheVariants.{Out}
+use Rattle.actx_data.specs.declared.trace.TraceEvent.TheVariants.{Out, Get}
 use Rattle.actx_data.specs.declared.value.Value.{Value}
 use Rattle.actx_data.specs.declared.value.Value.TheVariants as v
 use Rattle.actx_parse.specs.declared.side.Side.{Side}
+use Rattle.actx_parse.specs.declared.side.Side.TheVariants as side
 use Rattle.actx_parse.specs.declared.tree.BinaryOp.{BinaryOp}
 use Rattle.actx_parse.specs.declared.tree.Form.{Form}
-use Rattle.actx_parse.specs.declared.tree.Form.TheVariants.{Log}
-use Rattle.actx_parse.specs.Lexical.{same_text}
+use Rattle.actx_parse.specs.declared.tree.Form.TheVariants.{Log, NewVariable, NewWeakMap, Freeze, CallWith, Note}
+use Rattle.actx_parse.specs.declared.tree.FunctionKind.{FunctionKind}
+use Rattle.actx_parse.specs.declared.tree.FunctionKind.TheVariants.{Normal as normal_kind, Arrow as arrow_kind}
+use Rattle.actx_parse.specs.Grammar.{count}
+use Rattle.actx_parse.specs.Parser.{suits}
 use Rattle.actx_parse.specs.Tree as t
-use Rattle.actx_parse.specs.Tree.{Expr, Exprs, Items, Stmt, Stmts}
-use Rattle.actx_top.specs.Operators.{Answer, Gives, Throws, Leaves, binary, line_of, is_line}
+use Rattle.actx_parse.specs.Tree.{Expr, Exprs, Properties, Items, Stmt, Stmts}
+use Rattle.actx_top.specs.Operators.{Answer, Gives, Throws, Leaves, binary, is_true}
+use Rattle.actx_top.specs.Printing.{line_of, is_line}
+use Rattle.actx_top.specs.Agent.{mapped_or, with_mapped, this_variable, variable_props}
+use Rattle.actx_top.specs.Notes.{Noted, note}
+use Rattle.actx_top.specs.State.{Completion, Normal, Return, Throw, Cell, Method, VariableGet, VariableRun, WeakMapGet, WeakMapSet, Thing, Plain, Listed, Failure, Closure, Native, Weak, Task, Eval, Exec, ExecList, ExecBody, Given, Done, Call, Op, Operator, BuiltIn, GetKey, SetKey, MakeObject, CallOf, Frame, Pending, BaseFrame, CalleeFrame, ConstFrame, ValueFrame, ReturnFrame, IfFrame, TryFrame, LastFrame, ListFrame, CallFrame, MappingFrame, Variable, Store, Now, Doing, Over, State, Move, Goes, Writes, Stops, find, with_set, with_names, with_params, with_scope, with_call, back_to, back_from, with_thing, with_heap}
+use Rattle.actx_top.specs.Properties.{prop_of, with_props, any_proto, get, Put, PutDone, PutThrows, PutLeaves, put, frozen, with_entry, entry_at, show, more_shown}
 
--- STATES
--- how the work on a part ended
-pub data Completion : Type 0 where
-  Normal : Completion
-  Throw : (v : Value) → Completion
-
--- a name of a scope: without a value until its declaration has run
-pub record Cell : Type 0 where
-  pub name : List ℕ
-  pub value : Option Value
-  pub constant : Bool
-
-pub data Thing : Type 0 where
-  Failure : (name : ErrorName) (message : List ℕ) → Thing
-
--- what is to be done in one step
-pub data Task : Type 0 where
-  Eval : (e : Expr) → Task
-  Exec : (st : Stmt) → Task
-  ExecList : (ss : Stmts) → Task
-  Given : (v : Value) → Task
-  Done : (c : Completion) → Task
-
--- what an expression does with the values of its children
-pub data Op : Type 0 where
-  Operator : (op : BinaryOp) → Op
-  BuiltIn : (form : Form) → Op
-
--- what waits for a value or a completion
-pub data Frame : Type 0 where
-  -- an expression, with its children's values so far and the children that are missing
-  Pending : (op : Op) (values : List Value) (rest : Exprs) → Frame
-  -- a const: the name that waits for its value, and the items behind it
-  ConstFrame : (x : List ℕ) (rest : Items) → Frame
-  -- a statement that drops its expression's value
-  ValueFrame : Frame
-  -- a list: the statements behind the one under way, and the scope that comes back
-  ListFrame : (rest : Stmts) (back : List ℕ) → Frame
-
--- a scope is named by the numbers of itself and of those round it, innermost first
-pub record Store : Type 0 where
-  pub scope : List ℕ
-  pub scopes : List (List Cell)
-  pub heap : List Thing
-  pub shown : List ℕ
-  pub events : List Event
-
-pub data Now : Type 0 where
-  Doing : (task : Task) → Now
-  Over : (e : End) → Now
-
-pub record State : Type 0 where
-  pub now : Now
-  pub frames : List Frame
-  pub store : Store
-  pub trace : List TraceEvent
-
--- what a row answers: the next task, an event and the next task, or an end with no event
-pub data Move : Type 0 where
-  Goes : (task : Task) (fs : List Frame) (s : Store) → Move
-  Writes : (e : TraceEvent) (task : Task) (fs : List Frame) (s : Store) → Move
-  Stops : (e : End) → Move
-
--- SCOPES (9.1.1.1)
-abbrev pub cell_of : List ℕ → List Cell → Option Cell
-cell_of x [] = None
-cell_of x (c ∷ cs) = if same_text x c.name then Some c else cell_of x cs
-
-abbrev pub or_else : {A : Type 0} → Option A → Option A → Option A
-or_else (Some a) b = Some a
-or_else None b = b
-
-abbrev pub option_or : {A : Type 0} → Option A → A → A
-option_or (Some a) b = a
-option_or None b = b
-
-abbrev pub cells_at : List (List Cell) → ℕ → List Cell
-cells_at scopes k = option_or (slice_get scopes k) []
-
--- the innermost cell with the name
-abbrev pub find : List (List Cell) → List ℕ → List ℕ → Option Cell
-find scopes [] x = None
-find scopes (k ∷ ks) x = or_else (cell_of x (cells_at scopes k)) (find scopes ks x)
-
--- a constant keeps the value that it has
-abbrev pub given_cell : Value → Cell → Option Value → Cell
-given_cell v c None = record { name = c.name; value = Some v; constant = c.constant }
-given_cell v c (Some w) = if c.constant then c else record { name = c.name; value = Some v; constant = c.constant }
-
-abbrev pub set_cell : List ℕ → Value → List Cell → List Cell
-set_cell x v [] = []
-set_cell x v (c ∷ cs) = if same_text x c.name then given_cell v c c.value ∷ cs else c ∷ set_cell x v cs
-
--- the value of a name that the current scope declares
-abbrev pub set_in : List (List Cell) → List ℕ → List ℕ → Value → List (List Cell)
-set_in scopes [] x v = scopes
-set_in scopes (k ∷ ks) x v = slice_set scopes k (set_cell x v (cells_at scopes k))
-
-abbrev pub with_set : Store → List ℕ → Value → Store
-with_set s x v = record s { scopes = set_in s.scopes s.scope x v }
-
-abbrev pub unset : List ℕ → Cell
-unset x = record { name = x; value = None; constant = true }
-
-abbrev pub has_name : List ℕ → List Cell → Bool
-has_name x [] = false
-has_name x (c ∷ cs) = if same_text x c.name then true else has_name x cs
-
--- a later binding of one name replaces an earlier one
-abbrev pub with_name : List ℕ → List Cell → List Cell
-with_name x cs = if has_name x cs then cs else cs ++ unset x ∷ []
-
-abbrev pub with_items : Items → List Cell → List Cell
-with_items t.no_items cs = cs
-with_items (t.item x e is) cs = with_items is (with_name x cs)
-
--- the names that a list declares (14.2.3)
-abbrev pub with_names : Stmts → List Cell → List Cell
-with_names t.end cs = cs
-with_names (t.next (t.Const is) ss) cs = with_names ss (with_items is cs)
-with_names (t.next (t.Value e) ss) cs = with_names ss cs
-
-abbrev pub with_scope : Store → List Cell → Store
-with_scope s cells = record s { scope = length s.scopes ∷ s.scope; scopes = s.scopes ++ cells ∷ [] }
-
-abbrev pub back_to : Store → List ℕ → Store
-back_to s back = record s { scope = back }
-
--- THINGS
-abbrev pub with_thing : Store → Thing → Store
-with_thing s thing = record s { heap = s.heap ++ thing ∷ [] }
-
+-- ANSWERS
 -- a new error is thrown, with the empty message
 abbrev pub throws : ErrorName → List Frame → Store → Move
 throws name fs s = Goes (Done (Throw (v.Thing (length s.heap)))) fs (with_thing s (Failure name []))
 
--- the place of a thing in the list of things shown, from n up
-abbrev pub place_in : ℕ → ℕ → List ℕ → ℕ
-place_in n k [] = n
-place_in n k (j ∷ js) = if nat_eq k j then n else place_in (n + 1) k js
-
-abbrev pub show_thing : Option Thing → ℕ → Shown
-show_thing (Some (Failure name message)) n = h.Failure n name message
-show_thing None n = h.Object n
-
--- a value as it is shown: the k-th distinct thing has the number k
-abbrev pub show : List Thing → List ℕ → Value → Shown
-show heap js v.Undefined = h.Undefined
-show heap js v.Null = h.Null
-show heap js (v.Truth b) = h.Truth b
-show heap js (v.Num z) = h.Num z
-show heap js (v.Text u) = h.Text u
-show heap js (v.Thing k) = show_thing (slice_get heap k) (place_in 1 k js)
-
--- ROWS: expressions
 abbrev pub answered : Answer → List Frame → Store → Move
 answered (Gives v) fs s = Goes (Given v) fs s
 answered (Throws name) fs s = throws name fs s
 answered Leaves fs s = Stops Left
 
+-- a new thing is the value
+abbrev pub makes : Thing → List Frame → Store → Move
+makes thing fs s = Goes (Given (v.Thing (length s.heap))) fs (with_thing s thing)
+
+-- ROWS: names and literals
 -- a number literal past the greatest number is outside the profile
 abbrev pub eval_number : ℕ → List Frame → Store → Move
 eval_number n fs s = if nat_le n greatest then Goes (Given (v.Num (pos n))) fs s else Stops Left
@@ -194,47 +56,236 @@ abbrev pub read_cell : Option Cell → List Frame → Store → Move
 read_cell None fs s = Stops Left
 read_cell (Some c) fs s = read_value c.value fs s
 
+-- the receiver that a function keeps
+abbrev pub kept_receiver : FunctionKind → Value → Value
+kept_receiver arrow_kind receiver = receiver
+kept_receiver normal_kind receiver = v.Undefined
+
+-- the receiver in a function's body
+abbrev pub body_receiver : FunctionKind → Value → Value → Value
+body_receiver arrow_kind kept given = kept
+body_receiver normal_kind kept given = given
+
+-- ROWS: methods
+-- a variable's get
+abbrev pub gets : Option Variable → List Frame → Store → Move
+gets None fs s = throws TypeError fs s
+gets (Some x) fs s =
+    Writes (Get x.number (show s.heap (more_shown s.shown (mapped_or x.number x.default s.mapping)) (mapped_or x.number x.default s.mapping)))
+    (Given (mapped_or x.number x.default s.mapping)) fs (record s { shown = more_shown s.shown (mapped_or x.number x.default s.mapping) })
+
+abbrev pub first : List Value → Value
+first [] = v.Undefined
+first (v ∷ vs) = v
+
+abbrev pub rest : List Value → List Value
+rest [] = []
+rest (v ∷ vs) = vs
+
+-- a variable's run: its value, a function, and the arguments of the function
+abbrev pub runs : Option Variable → List Value → List Frame → Store → Move
+runs None vs fs s = throws TypeError fs s
+runs (Some x) vs fs s =
+    Goes (Call (first (rest vs)) v.Undefined (rest (rest vs))) (MappingFrame s.mapping s.scope s.receiver ∷ fs)
+    (record s { mapping = with_mapped x.number (first vs) s.mapping })
+
+abbrev pub weak_gets : Option Thing → List Value → List Frame → Store → Move
+weak_gets (Some (Weak es)) vs fs s = Goes (Given (entry_at (first vs) es)) fs s
+weak_gets _ vs fs s = throws TypeError fs s
+
+-- a key that is no thing is refused; else the map is the value
+abbrev pub weak_sets : Option Thing → ℕ → List Value → List Frame → Store → Move
+weak_sets (Some (Weak es)) w (v.Thing k ∷ vs) fs s = Goes (Given (v.Thing w)) fs (with_heap s (slice_set s.heap w (Weak (with_entry k (first vs) es))))
+weak_sets _ w vs fs s = throws TypeError fs s
+
+abbrev pub on_thing : Value → (ℕ → Move) → List Frame → Store → Move
+on_thing (v.Thing k) then_on fs s = then_on k
+on_thing _ then_on fs s = throws TypeError fs s
+
+-- a method of the other side is outside the profile
+abbrev pub method : Side → Method → Value → List Value → List Frame → Store → Move
+method side.Source VariableGet r vs fs s = gets (this_variable r s.variables) fs s
+method side.Source VariableRun r vs fs s = runs (this_variable r s.variables) vs fs s
+method side.Plain WeakMapGet r vs fs s = on_thing r (λ w. weak_gets (slice_get s.heap w) vs fs s) fs s
+method side.Plain WeakMapSet r vs fs s = on_thing r (λ w. weak_sets (slice_get s.heap w) w vs fs s) fs s
+method _ _ r vs fs s = Stops Left
+
+-- ROWS: calls (10.2.1, 13.3.6.2)
+abbrev pub call_thing : Side → Option Thing → Value → List Value → List Frame → Store → Move
+call_thing side (Some (Closure kind xs ss scope kept)) r vs fs s =
+    Goes (ExecBody ss) (CallFrame s.scope s.receiver ∷ fs) (with_call s scope (body_receiver kind kept r) (with_names ss (with_params xs vs [])))
+call_thing side (Some (Native m)) r vs fs s = method side m r vs fs s
+call_thing side _ r vs fs s = throws TypeError fs s
+
+abbrev pub call : Side → Value → Value → List Value → List Frame → Store → Move
+call side (v.Thing k) r vs fs s = call_thing side (slice_get s.heap k) r vs fs s
+call side _ r vs fs s = throws TypeError fs s
+
+-- ROWS: built-in forms
 -- console.log
 abbrev pub log : List Value → List Frame → Store → Move
-log vs fs s = if is_line vs then Writes (Out (line_of vs)) (Given v.Undefined) fs s else Stops Left
+log vs fs s = if is_line s.heap vs then Writes (Out (line_of s.heap vs)) (Given v.Undefined) fs s else Stops Left
 
--- what a side does with a built-in form and the values of its parts
-abbrev pub form_rule : Side → Form → List Value → List Frame → Store → Move
-form_rule side Log vs fs s = log vs fs s
+-- a new variable with the next number
+abbrev pub new_variable : List ℕ → Value → List Frame → Store → Move
+new_variable name default fs s =
+    if nat_le (suc (length s.variables)) greatest
+    then makes (Listed (variable_props name)) fs (record s { variables = s.variables ++ record { place = length s.heap; number = suc (length s.variables); default = default } ∷ [] })
+    else Stops Left
 
+-- an option that is undefined counts as absent
+abbrev pub option_of : Option Value → Value
+option_of None = v.Undefined
+option_of (Some v) = v
+
+-- a name is a text, and by default the empty one
+abbrev pub named_variable : Value → Value → List Frame → Store → Move
+named_variable v.Undefined default fs s = new_variable [] default fs s
+named_variable (v.Text u) default fs s = new_variable u default fs s
+named_variable _ default fs s = Stops Left
+
+abbrev pub variable_of : Option Thing → List Frame → Store → Move
+variable_of (Some (Plain ps)) fs s = named_variable (option_of (prop_of (codes "name") ps)) (option_of (prop_of (codes "defaultValue") ps)) fs s
+variable_of _ fs s = Stops Left
+
+-- new AsyncContext.Variable, without options or with an object of options
+abbrev pub variable_form : List Value → List Frame → Store → Move
+variable_form [] fs s = new_variable [] v.Undefined fs s
+variable_form (v.Undefined ∷ []) fs s = new_variable [] v.Undefined fs s
+variable_form (v.Thing k ∷ []) fs s = variable_of (slice_get s.heap k) fs s
+variable_form _ fs s = Stops Left
+
+-- Object.freeze
+abbrev pub froze : Option (List Thing) → ℕ → List Frame → Store → Move
+froze (Some heap) k fs s = Goes (Given (v.Thing k)) fs (with_heap s heap)
+froze None k fs s = Stops Left
+
+abbrev pub freeze_form : List Value → List Frame → Store → Move
+freeze_form (v.Thing k ∷ []) fs s = froze (frozen (slice_get s.heap k) s.heap k) k fs s
+freeze_form _ fs s = Stops Left
+
+-- f.call: the task is a call, whose row is a step of its own
+abbrev pub call_with : List Value → List Frame → Store → Move
+call_with [] fs s = Stops Left
+call_with (f ∷ vs) fs s = Goes (Call f (first vs) (rest vs)) fs s
+
+-- __actx.note
+abbrev pub noted : Option Noted → List Frame → Store → Move
+noted (Some n) fs s = Writes n.event (Given v.Undefined) fs (record s { shown = n.shown })
+noted None fs s = Stops Left
+
+-- the forms of a side
+abbrev pub has_form : Side → Form → Bool
+has_form side Log = true
+has_form side CallWith = true
+has_form side.Source NewVariable = true
+has_form side.Plain NewWeakMap = true
+has_form side.Plain Freeze = true
+has_form side.Plain Note = true
+has_form _ _ = false
+
+-- what is done with the values of a form's parts
+abbrev pub form_rule : Form → List Value → List Frame → Store → Move
+form_rule Log vs fs s = log vs fs s
+form_rule NewVariable vs fs s = variable_form vs fs s
+form_rule NewWeakMap vs fs s = makes (Weak []) fs s
+form_rule Freeze vs fs s = freeze_form vs fs s
+form_rule CallWith vs fs s = call_with vs fs s
+form_rule Note vs fs s = noted (note s.heap s.shown vs) fs s
+
+-- ROWS: operations
 abbrev pub operator_rule : BinaryOp → List Value → List Frame → Store → Move
 operator_rule op (a ∷ b ∷ []) fs s = answered (binary op a b) fs s
 operator_rule op _ fs s = Stops Left
 
+abbrev pub get_rule : List ℕ → List Value → List Frame → Store → Move
+get_rule key (b ∷ []) fs s = answered (get s.heap b key) fs s
+get_rule key _ fs s = Stops Left
+
+abbrev pub put_done : Put → Value → List Frame → Store → Move
+put_done (PutDone heap) v fs s = Goes (Given v) fs (with_heap s heap)
+put_done PutThrows v fs s = throws TypeError fs s
+put_done PutLeaves v fs s = Stops Left
+
+abbrev pub set_rule : List ℕ → List Value → List Frame → Store → Move
+set_rule key (b ∷ v ∷ []) fs s = put_done (put s.heap b key v) v fs s
+set_rule key _ fs s = Stops Left
+
+abbrev pub object_rule : List (List ℕ) → List Value → List Frame → Store → Move
+object_rule keys vs fs s = if any_proto keys then Stops Left else makes (Plain (with_props keys vs [])) fs s
+
+abbrev pub call_rule : Side → Value → List Value → List Frame → Store → Move
+call_rule side r [] fs s = Stops Left
+call_rule side r (f ∷ vs) fs s = call side f r vs fs s
+
 abbrev pub rule : Side → Op → List Value → List Frame → Store → Move
 rule side (Operator op) vs fs s = operator_rule op vs fs s
-rule side (BuiltIn form) vs fs s = form_rule side form vs fs s
+rule side (BuiltIn form) vs fs s = form_rule form vs fs s
+rule side (GetKey key) vs fs s = get_rule key vs fs s
+rule side (SetKey key) vs fs s = set_rule key vs fs s
+rule side (MakeObject keys) vs fs s = object_rule keys vs fs s
+rule side (CallOf r) vs fs s = call_rule side r vs fs s
 
 -- the children of an expression in text order; without one its rule applies
 abbrev pub eval_parts : Side → Op → List Value → Exprs → List Frame → Store → Move
 eval_parts side op vs t.none fs s = rule side op vs fs s
 eval_parts side op vs (t.also e es) fs s = Goes (Eval e) (Pending op vs es ∷ fs) s
 
+-- ROWS: expressions
+abbrev pub keys_of : Properties → List (List ℕ)
+keys_of t.no_properties = []
+keys_of (t.property key e ps) = key ∷ keys_of ps
+
+abbrev pub values_of : Properties → Exprs
+values_of t.no_properties = t.none
+values_of (t.property key e ps) = t.also e (values_of ps)
+
+-- a call of a property has the base first, and then reads the property
+abbrev pub eval_call : Side → Expr → Exprs → List Frame → Store → Move
+eval_call side (t.Member b key) es fs s = Goes (Eval b) (BaseFrame key es ∷ fs) s
+eval_call side f es fs s = eval_parts side (CallOf v.Undefined) [] (t.also f es) fs s
+
+-- a form of the other side, or with a number of parts that it doesn't take, is outside the profile where it is reached
+abbrev pub eval_form : Side → Form → Exprs → List Frame → Store → Move
+eval_form side form es fs s = if has_form side form && suits form (count es) then eval_parts side (BuiltIn form) [] es fs s else Stops Left
+
 abbrev pub eval : Side → Expr → List Frame → Store → Move
 eval side (t.Num n) fs s = eval_number n fs s
 eval side (t.Text u) fs s = Goes (Given (v.Text u)) fs s
+eval side t.Undefined fs s = Goes (Given v.Undefined) fs s
+eval side t.This fs s = Goes (Given s.receiver) fs s
 eval side (t.Named x) fs s = read_cell (find s.scopes s.scope x) fs s
 eval side (t.Binary op a b) fs s = eval_parts side (Operator op) [] (t.also a (t.also b t.none)) fs s
-eval side (t.Built form es) fs s = eval_parts side (BuiltIn form) [] es fs s
+eval side (t.Member b key) fs s = eval_parts side (GetKey key) [] (t.also b t.none) fs s
+eval side (t.SetMember b key e) fs s = eval_parts side (SetKey key) [] (t.also b (t.also e t.none)) fs s
+eval side (t.Call f es) fs s = eval_call side f es fs s
+eval side (t.Object ps) fs s = eval_parts side (MakeObject (keys_of ps)) [] (values_of ps) fs s
+eval side (t.Function kind xs ss) fs s = makes (Closure kind xs ss s.scope (kept_receiver kind s.receiver)) fs s
+eval side (t.Built form es) fs s = eval_form side form es fs s
 
 -- ROWS: statements
 abbrev pub begin_item : Items → List Frame → Store → Move
 begin_item t.no_items fs s = Goes (Done Normal) fs s
 begin_item (t.item x e is) fs s = Goes (Eval e) (ConstFrame x is ∷ fs) s
 
-abbrev pub exec : Stmt → List Frame → Store → Move
-exec (t.Const is) fs s = begin_item is fs s
-exec (t.Value e) fs s = Goes (Eval e) (ValueFrame ∷ fs) s
-
 -- an empty list has no frame and no scope
 abbrev pub exec_list : Stmts → List Frame → Store → Move
 exec_list t.end fs s = Goes (Done Normal) fs s
 exec_list (t.next st ss) fs s = Goes (Exec st) (ListFrame ss s.scope ∷ fs) (with_scope s (with_names (t.next st ss) []))
+
+-- the scope of a function's body is its call's
+abbrev pub exec_body : Stmts → List Frame → Store → Move
+exec_body t.end fs s = Goes (Done Normal) fs s
+exec_body (t.next st ss) fs s = Goes (Exec st) (ListFrame ss s.scope ∷ fs) s
+
+abbrev pub exec : Stmt → List Frame → Store → Move
+exec (t.Const is) fs s = begin_item is fs s
+exec (t.Value e) fs s = Goes (Eval e) (ValueFrame ∷ fs) s
+exec (t.Return e) fs s = Goes (Eval e) (ReturnFrame ∷ fs) s
+exec t.ReturnNothing fs s = Goes (Done (Return v.Undefined)) fs s
+exec (t.Block ss) fs s = exec_list ss fs s
+exec (t.If e ss) fs s = Goes (Eval e) (IfFrame ss ∷ fs) s
+exec (t.Try ss ls) fs s = Goes (ExecList ss) (TryFrame ls s.scope ∷ fs) s
 
 abbrev pub next_statement : Stmts → List ℕ → List Frame → Store → Move
 next_statement t.end back fs s = Goes (Done Normal) fs (back_to s back)
@@ -245,41 +296,81 @@ abbrev pub idle : Task → List Event → Store → Move
 idle task [] s = Stops Ended
 idle task (e ∷ es) s = Goes task [] (record s { events = es })
 
+abbrev pub chosen : Bool → Stmts → List Frame → Store → Move
+chosen true ss fs s = Goes (Exec (t.Block ss)) fs s
+chosen false ss fs s = Goes (Done Normal) fs s
+
+-- the property of a call's base: where reading it throws, the frame stays for a later step
+abbrev pub base_given : Answer → Value → List ℕ → Exprs → List Frame → Store → Move
+base_given (Gives f) b key es fs s = Goes (Given f) (CalleeFrame b es ∷ fs) s
+base_given (Throws name) b key es fs s = throws name (BaseFrame key es ∷ fs) s
+base_given Leaves b key es fs s = Stops Left
+
 abbrev pub given : Side → Value → List Frame → Store → Move
 given side v [] s = idle (Given v) s.events s
 given side v (Pending op vs es ∷ fs) s = eval_parts side op (vs ++ v ∷ []) es fs s
+given side v (BaseFrame key es ∷ fs) s = base_given (get s.heap v key) v key es fs s
+given side v (CalleeFrame b es ∷ fs) s = eval_parts side (CallOf b) (v ∷ []) es fs s
 given side v (ConstFrame x is ∷ fs) s = begin_item is fs (with_set s x v)
 given side v (ValueFrame ∷ fs) s = Goes (Done Normal) fs s
+given side v (ReturnFrame ∷ fs) s = Goes (Done (Return v)) fs s
+given side v (IfFrame ss ∷ fs) s = chosen (is_true v) ss fs s
+given side v (MappingFrame old back r ∷ fs) s = Goes (Given v) fs (record s { mapping = old; scope = back; receiver = r })
+given side v (TryFrame ls back ∷ fs) s = Stops Left
+given side v (LastFrame c ∷ fs) s = Stops Left
 given side v (ListFrame ss back ∷ fs) s = Stops Left
+given side v (CallFrame back r ∷ fs) s = Stops Left
 
-abbrev pub done_normal : List Frame → Store → Move
-done_normal [] s = idle (Done Normal) s.events s
-done_normal (ListFrame ss back ∷ fs) s = next_statement ss back fs s
-done_normal (_ ∷ fs) s = Goes (Done Normal) fs s
+-- a completion at no frame; a program with the static rules never returns there
+abbrev pub finished : Completion → Store → Move
+finished Normal s = idle (Done Normal) s.events s
+finished (Return v) s = Stops Left
+finished (Throw v) s = Stops (Threw (show s.heap (more_shown s.shown v) v))
 
-abbrev pub done_throw : Value → List Frame → Store → Move
-done_throw v [] s = Stops (Threw (show s.heap s.shown v))
-done_throw v (ListFrame ss back ∷ fs) s = Goes (Done (Throw v)) fs (back_to s back)
-done_throw v (_ ∷ fs) s = Goes (Done (Throw v)) fs s
+abbrev pub list_done : Completion → Stmts → List ℕ → List Frame → Store → Move
+list_done Normal ss back fs s = next_statement ss back fs s
+list_done (Return v) ss back fs s = Goes (Done (Return v)) fs (back_to s back)
+list_done (Throw v) ss back fs s = Goes (Done (Throw v)) fs (back_to s back)
+
+abbrev pub call_done : Completion → List Frame → Store → Move
+call_done Normal fs s = Goes (Given v.Undefined) fs s
+call_done (Return v) fs s = Goes (Given v) fs s
+call_done (Throw v) fs s = Goes (Done (Throw v)) fs s
+
+-- the last part's own completion replaces the one that is kept, but for a normal one
+abbrev pub last_done : Completion → Completion → List Frame → Store → Move
+last_done Normal kept fs s = Goes (Done kept) fs s
+last_done (Return v) kept fs s = Goes (Done (Return v)) fs s
+last_done (Throw v) kept fs s = Goes (Done (Throw v)) fs s
 
 abbrev pub done : Completion → List Frame → Store → Move
-done Normal fs s = done_normal fs s
-done (Throw v) fs s = done_throw v fs s
+done c [] s = finished c s
+done c (ListFrame ss back ∷ fs) s = list_done c ss back fs s
+done c (CallFrame back r ∷ fs) s = call_done c fs (back_from s back r)
+done c (TryFrame ls back ∷ fs) s = Goes (ExecList ls) (LastFrame c ∷ fs) (back_to s back)
+done c (LastFrame kept ∷ fs) s = last_done c kept fs s
+done c (MappingFrame old back r ∷ fs) s = Goes (Done c) fs (record s { mapping = old; scope = back; receiver = r })
+done c (_ ∷ fs) s = Goes (Done c) fs s
 
 -- THE TABLE
 abbrev pub row : Side → Task → List Frame → Store → Move
 row side (Eval e) fs s = eval side e fs s
 row side (Exec st) fs s = exec st fs s
 row side (ExecList ss) fs s = exec_list ss fs s
+row side (ExecBody ss) fs s = exec_body ss fs s
 row side (Given v) fs s = given side v fs s
 row side (Done c) fs s = done c fs s
+row side (Call f r vs) fs s = call side f r vs fs s
 
 abbrev pub at : Task → List Frame → Store → List TraceEvent → State
 at task fs s tr = record { now = Doing task; frames = fs; store = s; trace = tr }
 
+abbrev pub no_store : Store
+no_store = record { scope = []; receiver = v.Undefined; scopes = []; heap = []; shown = []; events = []; mapping = []; variables = [] }
+
 -- a run that is over keeps its end and its trace alone
 abbrev pub stopped : End → List TraceEvent → State
-stopped e tr = record { now = Over e; frames = []; store = record { scope = []; scopes = []; heap = []; shown = []; events = [] }; trace = tr }
+stopped e tr = record { now = Over e; frames = []; store = no_store; trace = tr }
 
 abbrev pub takes : Move → List TraceEvent → State
 takes (Goes task fs s) tr = at task fs s tr
@@ -294,9 +385,14 @@ step_at side (Over e) fs s tr = record { now = Over e; frames = fs; store = s; t
 abbrev pub step : Side → State → State
 step side s = step_at side s.now s.frames s.store s.trace
 
+-- the methods of a side's things stand in the heap before the first step
+abbrev pub first_heap : Side → List Thing
+first_heap side.Source = Native VariableGet ∷ Native VariableRun ∷ []
+first_heap side.Plain = Native WeakMapGet ∷ Native WeakMapSet ∷ []
+
 -- the state before the first step: the program's list is to be executed
-abbrev pub start : Stmts → List Event → State
-start p events = at (ExecList p) [] (record { scope = []; scopes = []; heap = []; shown = []; events = events }) []
+abbrev pub start : Side → Stmts → List Event → State
+start side p events = at (ExecList p) [] (record no_store { heap = first_heap side; events = events }) []
 
 abbrev pub end_of : Now → End
 end_of (Doing task) = Going

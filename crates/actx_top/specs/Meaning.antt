@@ -11,18 +11,19 @@ use Rattle.actx_data.specs.declared.trace.TraceEvent.{TraceEvent}
 use Rattle.actx_data.specs.declared.trace.TraceEvent.TheVariants.{Out}
 use Rattle.actx_parse.specs.declared.side.Side.TheVariants.{Source, Plain}
 use Rattle.actx_parse.specs.Tree.{Stmts}
-use Rattle.actx_top.specs.Machine.{State, step, start, end_of}
+use Rattle.actx_top.specs.State.{State}
+use Rattle.actx_top.specs.Machine.{step, start, end_of}
 
 abbrev pub see : State → Seen TraceEvent End
 see s = record { trace = s.trace; end = end_of s.now }
 
 -- what the source program shows after this many steps
 abbrev pub source_shows : Stmts → List Event → ℕ → Seen TraceEvent End
-source_shows p events n = see (run (step Source) n (start p events))
+source_shows p events n = see (run (step Source) n (start Source p events))
 
 -- what the emitted program shows after this many steps
 abbrev pub target_shows : Stmts → List Event → ℕ → Seen TraceEvent End
-target_shows q events n = see (run (step Plain) n (start q events))
+target_shows q events n = see (run (step Plain) n (start Plain q events))
 
 abbrev pub AreUnits : List ℕ → Type 0
 AreUnits us = All (λ u. u < 2 ^ 16) us

@@ -1,12 +1,13 @@
--- What operators and printing make of values (ECMA-262, 13.8.1, 13.15.3, 7.1.17, restricted to the profile).
-use Rattle.std.specs.Prelude.{ℕ, ℤ, Bool, true, false, ◌==◌, nat_le, List, [], ◌∷◌, ◌++◌, length, Option, Some, None, codes, flat_map, if◌then◌else◌}
-use Rattle.std.specs.List.{list_any}
+-- What operators and tests make of values (ECMA-262, 7.1.2, 7.1.17, 7.2.15, 13.8.1 and 13.15.3, restricted to the profile).
+use Rattle.std.specs.Prelude.{ℕ, ℤ, pos, Bool, true, false, not, nat_eq, List, [], ◌∷◌, Option, Some, None, codes}
+use Rattle.std.specs.Ordering.{int_eq}
 use Rattle.std.specs.Fmt.{signed_decimal}
 use Rattle.actx_data.specs.Number.{sum_of, difference_of, product_of}
 use Rattle.actx_data.specs.Units.{joined}
 use Rattle.actx_data.specs.declared.shown.ErrorName.{ErrorName}
 use Rattle.actx_data.specs.declared.value.Value.{Value}
 use Rattle.actx_data.specs.declared.value.Value.TheVariants as v
+use Rattle.actx_parse.specs.Lexical.{same_text}
 use Rattle.actx_parse.specs.declared.tree.BinaryOp.{BinaryOp}
 use Rattle.actx_parse.specs.declared.tree.BinaryOp.TheVariants as o
 
@@ -60,40 +61,29 @@ abbrev pub times : Value → Value → Answer
 times (v.Num x) (v.Num y) = number_or_leaves (product_of x y)
 times _ _ = Leaves
 
+-- primitives by their values, things by their places (7.2.15 IsStrictlyEqual)
+abbrev pub same : Value → Value → Bool
+same v.Undefined v.Undefined = true
+same v.Null v.Null = true
+same (v.Truth true) (v.Truth b) = b
+same (v.Truth false) (v.Truth b) = not b
+same (v.Num x) (v.Num y) = int_eq x y
+same (v.Text u) (v.Text w) = same_text u w
+same (v.Thing k) (v.Thing j) = nat_eq k j
+same _ _ = false
+
 abbrev pub binary : BinaryOp → Value → Value → Answer
 binary o.Add a b = plus a b
 binary o.Sub a b = minus a b
 binary o.Mul a b = times a b
+binary o.Same a b = Gives (v.Truth (same a b))
 
--- PRINTING
--- what a line has for a value: an object is printed as [object]
-abbrev pub text_or_object : Option (List ℕ) → List ℕ
-text_or_object (Some u) = u
-text_or_object None = codes "[object]"
-
-abbrev pub printed : Value → List ℕ
-printed v = text_or_object (primitive_text v)
-
--- a value's text behind a space
-abbrev pub spaced : Value → List ℕ
-spaced v = 32 ∷ printed v
-
--- the texts of values with a space before each
-abbrev pub printed_more : List Value → List ℕ
-printed_more vs = flat_map spaced vs
-
-abbrev pub line_of : List Value → List ℕ
-line_of [] = []
-line_of (v ∷ vs) = printed v ++ printed_more vs
-
-abbrev pub has_percent : List ℕ → Bool
-has_percent cs = list_any (λ c. c == 37) cs
-
--- a first text with % is a format where more values stand after it
-abbrev pub is_format : List Value → Bool
-is_format (v.Text u ∷ w ∷ vs) = has_percent u
-is_format _ = false
-
--- whether the values make a line: no format, and no longer than a line may be
-abbrev pub is_line : List Value → Bool
-is_line vs = if is_format vs then false else nat_le (length (line_of vs)) 1048576
+-- TESTS (7.1.2 ToBoolean)
+abbrev pub is_true : Value → Bool
+is_true v.Undefined = false
+is_true v.Null = false
+is_true (v.Truth b) = b
+is_true (v.Num z) = not (int_eq z (pos 0))
+is_true (v.Text []) = false
+is_true (v.Text (c ∷ cs)) = true
+is_true (v.Thing k) = true

@@ -4,34 +4,26 @@ ghost use Rattle.std.specs.Prelude.{◌≡◌, [], ℕ, List, IfOk};
 ghost use Rattle.actx_parse.specs.Accepts.{Accepts, ReadsPlain};
 ghost use Rattle.actx_parse.specs.Tree.{Stmts};
 ghost use Rattle.actx_parse.specs.View.{program_view};
-ghost use Rattle.actx_top.specs.Answers.{most_steps, run_shows, status_of, IsThrow};
-ghost use Rattle.actx_top.specs.Ending.{ending_status, Ends};
+ghost use Rattle.actx_top.specs.Answers.{most_steps, run_shows};
+ghost use Rattle.actx_top.specs.Ending.{Ends};
 ghost use Rattle.actx_top.specs.Headline.{emitted};
-ghost use Rattle.actx_top.specs.Meaning.{target_shows, lines_of};
+ghost use Rattle.actx_top.specs.Meaning.{target_shows};
 
 use crate::lower::lower;
 use crate::machine::Target;
 use crate::render::render;
-use actx_data::{End, NoMemory};
+use actx_data::{End, NoMemory, Twin};
 use actx_parse::emit::emit;
 use actx_parse::read::{ReadFault, read_plain};
 use actx_parse::spell::spell;
 use actx_parse::tree::Program;
 use std::alloc::Global;
 
-/// Where a run stands after its greatest number of steps.
-#[derive(Clone, Copy)]
-pub enum Ending {
-    Ended,
-    Left,
-    Going,
-}
-
 /// What a run has printed, and where it stands.
 #[derive(Drop)]
 pub struct Run {
     pub lines: Vec<u8>,
-    pub ending: Ending,
+    pub end: End,
 }
 
 /// The greatest number of steps of a run.
@@ -62,29 +54,15 @@ fn read_back(alloc: Global, text: &[u8]) -> Result<Program, NoMemory>
     }
 }
 
-/// Where a run stands that didn't throw.
-fn ending_of(end: &End) -> Ending
-    requires { IsThrow end.now → ⊥ }
-    ensures { ending_status result ≡ status_of end.now }
-{
-    match end {
-        End::Ended => Ending::Ended,
-        End::Left => Ending::Left,
-        End::Going => Ending::Going,
-        End::Threw(_) => unreachable!(),
-    }
-}
-
-/// The run of a plain program that doesn't throw, without host events.
+/// The run of a plain program, without host events.
 fn run_plain(alloc: Global, plain: &Program) -> Result<Run, NoMemory>
-    requires { IsThrow (target_shows (program_view plain.now) [] most_steps).end → ⊥ }
     ensures { IfOk result (λ run. Ends run (target_shows (program_view plain.now) [] most_steps)) }
 {
-    let mut target = Target::new(alloc, &plain.body, Vec::new(alloc));
+    let mut target = Target::new(alloc, &plain.body, Vec::new(alloc))?;
     target.run(most_steps())?;
     let lines = render(alloc, &target.trace)?;
-    let ending = ending_of(&target.end);
-    Ok(Run { lines, ending })
+    let end = target.end.copy(alloc)?;
+    Ok(Run { lines, end })
 }
 
 /// The run of an accepted program's emitted text.

@@ -2,10 +2,11 @@
 
 ghost use Rattle.std.specs.Prelude.{◌≡◌, IfOk, string_bytes};
 ghost use Rattle.actx_ports.specs.Ports.{AddsPart};
-ghost use Rattle.actx_top.specs.Answers.{fault_line, fault_status, TellsAs, OutOfMemory};
+ghost use Rattle.actx_top.specs.Answers.{fault_line, fault_status, TellsAs, OutOfMemory, ThrewValue};
 ghost use Rattle.actx_top.specs.FaultView.{fault_view};
 
-use actx_data::NoMemory;
+use crate::shown_text::shown_text;
+use actx_data::{NoMemory, Shown};
 use actx_ports::{PortFault, Sink, write_whole};
 use std::alloc::Global;
 
@@ -21,11 +22,21 @@ const STILL_GOING: &str = "actx: still going after 20000000 steps\n";
 pub enum Fault<'a> {
     BadWords,
     NotYet(&'a str),
+    /// The run threw a value, which is shown so.
+    ThrewValue(&'a Shown),
     LeftProfile,
     StillGoing,
     CannotRead(&'a str),
     CannotWrite,
     OutOfMemory,
+}
+
+/// The line on a value that was thrown.
+fn threw_line(alloc: Global, shown: &Shown) -> Result<String, NoMemory>
+    ensures { IfOk result (λ line. string_bytes line ≡ fault_line (ThrewValue shown.now)) }
+{
+    let text = shown_text(alloc, shown)?;
+    Ok(format!(in alloc; "actx: threw {text}\n")?)
 }
 
 /// The line that tells a fault.
@@ -35,6 +46,7 @@ fn line_of(alloc: Global, fault: Fault<'_>) -> Result<String, NoMemory>
     match fault {
         Fault::BadWords => Ok(String::from_str(alloc, USAGE)?),
         Fault::NotYet(name) => Ok(format!(in alloc; "actx: {name}:1:1: 13 NotYet\n")?),
+        Fault::ThrewValue(shown) => threw_line(alloc, shown),
         Fault::LeftProfile => Ok(String::from_str(alloc, "actx: left the profile\n")?),
         Fault::StillGoing => Ok(String::from_str(alloc, STILL_GOING)?),
         Fault::CannotRead(name) => Ok(format!(in alloc; "actx: cannot read {name}\n")?),
@@ -50,6 +62,7 @@ fn status_of(fault: Fault<'_>) -> u8
     match fault {
         Fault::BadWords => 2,
         Fault::NotYet(_) => 3,
+        Fault::ThrewValue(_) => 1,
         Fault::LeftProfile => 4,
         Fault::StillGoing => 5,
         Fault::CannotRead(_) => 6,

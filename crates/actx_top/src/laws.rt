@@ -4,31 +4,33 @@ ghost use Rattle.std.specs.Prelude.{ℕ, List};
 ghost use Rattle.actx_data.specs.declared.event.Event.{Event};
 ghost use Rattle.actx_parse.specs.declared.token.TokenKind.{TokenKind};
 ghost use Rattle.actx_parse.specs.declared.side.Side.TheVariants.{Source, Plain};
-ghost use Rattle.actx_parse.specs.Grammar.{SpellsProgram};
-ghost use Rattle.actx_parse.specs.Static.{Clean};
+ghost use Rattle.actx_parse.specs.Grammar.{SpellsStmts};
+ghost use Rattle.actx_parse.specs.Static.{IsTaken};
 ghost use Rattle.actx_parse.specs.Tree.{Stmts};
-ghost use Rattle.actx_top.specs.Answers.{IsThrow};
 ghost use Rattle.actx_match.specs.Matching.{WithinFactor};
+ghost use Rattle.actx_top.specs.Laws.{Laws};
 ghost use Rattle.actx_top.specs.Weight.{source_cost};
 ghost use Rattle.actx_top.specs.Low.{low};
 ghost use Rattle.actx_top.specs.Meaning.{Same, source_shows, target_shows};
 
-/// The run of a program and the run of its emitted program match in both directions, for every list of host events.
+/// What each function of the prelude does: how `get` finds the value in place, that `run` puts the old mapping back after
+/// a value and after a throw, and what a new variable is.
+pub fn prelude_keeps_the_mapping()
+    ensures { Laws }
+{}
+
+/// The run of a program that is taken and the run of its emitted program match in both directions, for every list of
+/// host events.
 pub fn source_and_target_match()
-    ensures { (p : Stmts) → Same p (low p) }
+    ensures { (p : Stmts) → IsTaken p → Same p (low p) }
 {}
 
 /// Some tokens of the plain side spell the emitted program.
 pub fn emitted_is_spelled()
-    ensures { (p : Stmts) (x : List TokenKind) → SpellsProgram Source 200 p x → (y : List TokenKind) × SpellsProgram Plain 32768 (low p) y }
-{}
-
-/// No run of a clean program's emitted program throws, whatever the host events.
-pub fn clean_programs_never_throw()
-    ensures { (p : Stmts) → Clean p → (events : List Event) (n : ℕ) → IsThrow (target_shows (low p) events n).end → ⊥ }
+    ensures { (p : Stmts) (x : List TokenKind) → SpellsStmts Source 200 p x → IsTaken p → (y : List TokenKind) × SpellsStmts Plain 32768 (low p) y }
 {}
 
 /// What a program shows after some steps, its emitted program shows after at most 1,024 times the weights of these steps.
 pub fn emitted_work_is_bounded()
-    ensures { (p : Stmts) (events : List Event) → WithinFactor 1024 (source_shows p events) (target_shows (low p) events) (source_cost p events) (λ m. m) }
+    ensures { (p : Stmts) → IsTaken p → (events : List Event) → WithinFactor 1024 (source_shows p events) (target_shows (low p) events) (source_cost p events) (λ m. m) }
 {}

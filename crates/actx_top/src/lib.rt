@@ -1,20 +1,29 @@
 //! The top call and what it stands on: the step table, the emitted program and both runs.
 #![tactic(auto)]
 
+mod chain;
+mod entries;
 mod execute;
 mod fault;
+mod key;
 mod laws;
 mod line;
 mod lower;
 mod machine;
 mod operators;
+mod prelude;
+mod property;
 mod render;
 mod scope;
+mod shown;
+mod shown_text;
 mod sound;
+mod table;
+mod thing;
 mod top;
+mod word;
 
 pub use laws::{
-    clean_programs_never_throw, emitted_is_spelled, emitted_work_is_bounded,
-    source_and_target_match,
+    emitted_is_spelled, emitted_work_is_bounded, prelude_keeps_the_mapping, source_and_target_match,
 };
 pub use top::actx;

@@ -1,13 +1,15 @@
-//! The lowering: the emitted program of a program, as `const p_a = 1 ;` of `const a = 1;` behind `"use strict" ;`.
+//! The lowering: the prelude, and behind it the program with its names renamed, as `const p_a = 1;` of `const a = 1;`.
 
-ghost use Rattle.std.specs.Prelude.{◌≡◌, IfOk, codes};
-ghost use Rattle.actx_parse.specs.Tree.{Text, Value};
-ghost use Rattle.actx_parse.specs.View.{expr_view, exprs_view, items_view, stmt_view, stmts_view, program_view};
-ghost use Rattle.actx_top.specs.Low.{p_, renamed, all_renamed, items_renamed, stmt_renamed, program_renamed, low};
+ghost use Rattle.std.specs.Prelude.{◌≡◌, IfOk, option_map};
+ghost use Rattle.actx_parse.specs.View.{expr_view, returned, exprs_view, item_view, items_view, function_view, property_view, properties_view, stmt_view, stmts_view, program_view};
+ghost use Rattle.actx_parse.specs.Tree.{Named};
+ghost use Rattle.actx_top.specs.Prelude.{name_variable};
+ghost use Rattle.actx_top.specs.Low.{p_, names_renamed, form_emitted, renamed, all_renamed, properties_renamed, items_renamed, stmt_renamed, program_renamed, low};
 
-use actx_data::{NoMemory, Twin, Units};
+use crate::prelude::prelude;
+use actx_data::{NoMemory, Twin};
 use actx_parse::name::Name;
-use actx_parse::tree::{ConstItem, Expr, Program, Stmt};
+use actx_parse::tree::{ConstItem, Expr, Form, Function, Program, Property, Stmt};
 use std::alloc::Global;
 
 /// A name of the program as it is emitted: with `p_` before it.
@@ -19,7 +21,38 @@ fn rename(alloc: Global, name: &Name) -> Result<Name, NoMemory>
     Ok(Name::from_vec(chars))
 }
 
-/// An expression with its names renamed.
+/// Names as they are emitted.
+fn names_renamed(alloc: Global, names: &Vec<Name>) -> Result<Vec<Name>, NoMemory>
+    ensures { IfOk result (λ made. made.items ≡ names_renamed names.now.items) }
+{
+    let mut made = Vec::new(alloc);
+    for name in names {
+        made.push(rename(alloc, name)?)?;
+    }
+    Ok(made)
+}
+
+/// The prelude's function that makes a variable.
+fn variable_maker(alloc: Global) -> Result<Expr, NoMemory>
+    ensures { IfOk result (λ d. expr_view d ≡ Named name_variable) }
+{
+    let chars = vec![in alloc; '_', '_', 'v', 'a', 'r', 'i', 'a', 'b', 'l', 'e']?;
+    Ok(Expr::Named(Name::from_vec(chars)))
+}
+
+/// A form with its parts as it is emitted: a variable's constructor is a call of the prelude's function.
+fn form_emitted(alloc: Global, form: Form, parts: Vec<Expr>) -> Result<Expr, NoMemory>
+    ensures { IfOk result (λ d. expr_view d ≡ form_emitted form (exprs_view parts.items)) }
+{
+    match form {
+        Form::NewVariable => Ok(Expr::Call(Box::new(alloc, variable_maker(alloc)?)?, parts)),
+        Form::Log | Form::NewWeakMap | Form::Freeze | Form::CallWith | Form::Note => {
+            Ok(Expr::Form(form, parts))
+        }
+    }
+}
+
+/// An expression as it is emitted.
 #[cycle(renamed)]
 fn renamed(alloc: Global, e: &Expr) -> Result<Expr, NoMemory>
     ensures { IfOk result (λ d. expr_view d ≡ renamed (expr_view e.now)) }
@@ -27,17 +60,36 @@ fn renamed(alloc: Global, e: &Expr) -> Result<Expr, NoMemory>
     match e {
         Expr::Num(n) => Ok(Expr::Num(*n)),
         Expr::Text(units) => Ok(Expr::Text(units.copy(alloc)?)),
+        Expr::Undefined => Ok(Expr::Undefined),
+        Expr::This => Ok(Expr::This),
         Expr::Named(name) => Ok(Expr::Named(rename(alloc, name)?)),
         Expr::Binary(op, left, right) => {
             let left = Box::new(alloc, renamed(alloc, left)?)?;
             let right = Box::new(alloc, renamed(alloc, right)?)?;
             Ok(Expr::Binary(*op, left, right))
         }
-        Expr::Form(form, parts) => Ok(Expr::Form(*form, all_renamed(alloc, parts)?)),
+        Expr::Member(base, key) => {
+            let base = Box::new(alloc, renamed(alloc, base)?)?;
+            Ok(Expr::Member(base, key.copy(alloc)?))
+        }
+        Expr::SetMember(base, key, value) => {
+            let base = Box::new(alloc, renamed(alloc, base)?)?;
+            let key = key.copy(alloc)?;
+            Ok(Expr::SetMember(base, key, Box::new(alloc, renamed(alloc, value)?)?))
+        }
+        Expr::Call(callee, args) => {
+            let callee = Box::new(alloc, renamed(alloc, callee)?)?;
+            Ok(Expr::Call(callee, all_renamed(alloc, args)?))
+        }
+        Expr::Object(properties) => Ok(Expr::Object(properties_renamed(alloc, properties)?)),
+        Expr::Function(function) => {
+            Ok(Expr::Function(Box::new(alloc, function_renamed(alloc, function)?)?))
+        }
+        Expr::Form(form, parts) => form_emitted(alloc, *form, all_renamed(alloc, parts)?),
     }
 }
 
-/// Expressions with their names renamed.
+/// Expressions as they are emitted.
 #[cycle(renamed)]
 fn all_renamed(alloc: Global, es: &Vec<Expr>) -> Result<Vec<Expr>, NoMemory>
     ensures { IfOk result (λ ds. exprs_view ds.items ≡ all_renamed (exprs_view es.now.items)) }
@@ -49,48 +101,117 @@ fn all_renamed(alloc: Global, es: &Vec<Expr>) -> Result<Vec<Expr>, NoMemory>
     Ok(made)
 }
 
-/// Items with their names renamed.
-fn items_renamed(alloc: Global, items: &[ConstItem]) -> Result<Vec<ConstItem>, NoMemory>
-    ensures { IfOk result (λ made. items_view made.items ≡ items_renamed (items_view items.now)) }
+/// A property as it is emitted: its key stays.
+#[cycle(renamed)]
+fn property_renamed(alloc: Global, property: &Property) -> Result<Property, NoMemory>
+    ensures { IfOk result (λ made. property_view made ≡ ((property_view property.now).0, renamed (property_view property.now).1)) }
 {
-    let mut made = Vec::with_capacity(alloc, items.len())?;
-    for item in items {
-        let name = rename(alloc, &item.name)?;
-        let value = renamed(alloc, &item.value)?;
-        made.push(ConstItem { name, value })?;
+    let key = property.key.copy(alloc)?;
+    let value = renamed(alloc, &property.value)?;
+    Ok(Property { key, value })
+}
+
+/// Properties as they are emitted.
+#[cycle(renamed)]
+fn properties_renamed(alloc: Global, properties: &Vec<Property>) -> Result<Vec<Property>, NoMemory>
+    ensures { IfOk result (λ made. properties_view made.items ≡ properties_renamed (properties_view properties.now.items)) }
+{
+    let mut made = Vec::new(alloc);
+    for property in properties {
+        made.push(property_renamed(alloc, property)?)?;
     }
     Ok(made)
 }
 
-/// A statement with its names renamed.
+/// A function as it is emitted.
+#[cycle(renamed)]
+fn function_renamed(alloc: Global, function: &Function) -> Result<Function, NoMemory>
+    ensures { IfOk result (λ made. function_view made ≡ renamed (function_view function.now)) }
+{
+    let params = names_renamed(alloc, &function.params)?;
+    let body = program_renamed(alloc, &function.body)?;
+    Ok(Function {
+        kind: function.kind,
+        params,
+        body,
+    })
+}
+
+/// An item of a const as it is emitted.
+#[cycle(renamed)]
+fn item_renamed(alloc: Global, item: &ConstItem) -> Result<ConstItem, NoMemory>
+    ensures { IfOk result (λ made. item_view made ≡ (p_ (item_view item.now).0, renamed (item_view item.now).1)) }
+{
+    let name = rename(alloc, &item.name)?;
+    let value = renamed(alloc, &item.value)?;
+    Ok(ConstItem { name, value })
+}
+
+/// Items of a const as they are emitted.
+#[cycle(renamed)]
+fn items_renamed(alloc: Global, items: &Vec<ConstItem>) -> Result<Vec<ConstItem>, NoMemory>
+    ensures { IfOk result (λ made. items_view made.items ≡ items_renamed (items_view items.now.items)) }
+{
+    let mut made = Vec::new(alloc);
+    for item in items {
+        made.push(item_renamed(alloc, item)?)?;
+    }
+    Ok(made)
+}
+
+/// What a function returns as it is emitted.
+#[cycle(renamed)]
+fn value_renamed(alloc: Global, value: &Option<Expr>) -> Result<Option<Expr>, NoMemory>
+    ensures { IfOk result (λ made. returned (option_map expr_view made) ≡ stmt_renamed (returned (option_map expr_view value.now))) }
+{
+    match value {
+        None => Ok(None),
+        Some(e) => Ok(Some(renamed(alloc, e)?)),
+    }
+}
+
+/// A statement as it is emitted.
+#[cycle(renamed)]
 fn statement_renamed(alloc: Global, statement: &Stmt) -> Result<Stmt, NoMemory>
     ensures { IfOk result (λ made. stmt_view made ≡ stmt_renamed (stmt_view statement.now)) }
 {
     match statement {
         Stmt::Const(items) => Ok(Stmt::Const(items_renamed(alloc, items)?)),
         Stmt::Value(e) => Ok(Stmt::Value(renamed(alloc, e)?)),
+        Stmt::Return(value) => Ok(Stmt::Return(value_renamed(alloc, value)?)),
+        Stmt::Block(statements) => Ok(Stmt::Block(program_renamed(alloc, statements)?)),
+        Stmt::If { test, yes } => {
+            let test = renamed(alloc, test)?;
+            let yes = program_renamed(alloc, yes)?;
+            Ok(Stmt::If { test, yes })
+        }
+        Stmt::Try { block, last } => {
+            let block = program_renamed(alloc, block)?;
+            let last = program_renamed(alloc, last)?;
+            Ok(Stmt::Try { block, last })
+        }
     }
 }
 
-/// The directive that stands before every emitted program (ECMA-262, 11.2.2).
-fn use_strict(alloc: Global) -> Result<Stmt, NoMemory>
-    ensures { IfOk result (λ made. stmt_view made ≡ Value (Text (codes "use strict"))) }
+/// Statements as they are emitted.
+#[cycle(renamed)]
+fn program_renamed(alloc: Global, statements: &Vec<Stmt>) -> Result<Vec<Stmt>, NoMemory>
+    ensures { IfOk result (λ made. stmts_view made.items ≡ program_renamed (stmts_view statements.now.items)) }
 {
-    let units = b"use strict"
-        .iter()
-        .map(|byte| u16::from(*byte))
-        .collect(alloc)?;
-    Ok(Stmt::Value(Expr::Text(Units::from_vec(units))))
+    let mut made = Vec::new(alloc);
+    for statement in statements {
+        made.push(statement_renamed(alloc, statement)?)?;
+    }
+    Ok(made)
 }
 
 /// The emitted program: the prelude, and then the statements of the program with their names renamed.
+#[tactic(auto, using(crate::proofs::Lowered::followed))]
 pub fn lower(alloc: Global, program: &Program) -> Result<Program, NoMemory>
     ensures { IfOk result (λ q. program_view q ≡ low (program_view program.now)) }
 {
-    let mut body = Vec::with_capacity(alloc, program.body.len().saturating_add(1))?;
-    body.push(use_strict(alloc)?)?;
-    for statement in &program.body {
-        body.push(statement_renamed(alloc, statement)?)?;
-    }
+    let mut body = prelude(alloc)?;
+    let mut own = program_renamed(alloc, &program.body)?;
+    body.append(&mut own)?;
     Ok(Program { body })
 }

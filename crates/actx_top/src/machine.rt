@@ -1,26 +1,37 @@
-//! The machine that runs an emitted program, one row of the step table a step.
+//! The machine that runs a plain program, one row of the step table a step.
 
-ghost use Rattle.std.specs.Prelude.{◌≡◌, [], IfOk, OnOk, reverse};
-ghost use Rattle.actx_match.specs.Runs.{run};
-ghost use Rattle.actx_parse.specs.View.{expr_view, stmt_view, stmts_view};
-ghost use Rattle.actx_top.specs.Machine.{step, start, takes};
+ghost use Rattle.std.specs.Prelude.{◌≡◌, [], IfOk, reverse};
+ghost use Rattle.actx_parse.specs.declared.side.Side.TheVariants.{Plain};
+ghost use Rattle.actx_parse.specs.View.{stmts_view};
+ghost use Rattle.actx_top.specs.Machine.{start, first_heap};
 ghost use Rattle.actx_top.specs.MachineView.{state_of};
+ghost use Rattle.actx_top.specs.ThingView.{things_of};
 
+mod calls;
 mod expressions;
+mod forms;
+mod notes;
+mod operations;
 mod statements;
 mod step;
+#[cfg(test)]
+mod tests;
 
+use crate::chain::Chain;
 use crate::scope::Scope;
+use crate::shown::ShownThings;
 use crate::sound::Sound;
-use actx_data::{End, ErrorName, Event, NoMemory, TraceEvent, Units};
+use crate::thing::{Method, Thing};
+use actx_data::{End, Event, NoMemory, TraceEvent};
 use actx_parse::name::Name;
-use actx_parse::tree::{BinaryOp, ConstItem, Expr, Form, Stmt};
+use actx_parse::tree::{BinaryOp, ConstItem, Expr, Property, Stmt};
 use std::alloc::Global;
 
 /// How the work on a part ended.
 #[derive(Drop)]
 pub enum Completion {
     Normal,
+    Return(Sound),
     Throw(Sound),
 }
 
@@ -29,16 +40,39 @@ pub enum Completion {
 pub enum Task<'a> {
     Eval(&'a Expr),
     Exec(&'a Stmt),
+    /// A list with a scope of its own, and a function's body, whose scope the call has made.
     ExecList(&'a [Stmt]),
+    ExecBody(&'a [Stmt]),
+    /// The branch of an if, a block that is a list in the tree.
+    ExecBlock(&'a [Stmt]),
     Given(Sound),
     Done(Completion),
+    /// A call of the first value, with the second as the receiver.
+    Call(Sound, Sound, Vec<Sound>),
+}
+
+/// The built-in forms of a plain program.
+#[derive(Clone, Copy)]
+pub enum PlainForm {
+    Log,
+    NewWeakMap,
+    Freeze,
+    CallWith,
+    Note,
 }
 
 /// What an expression does with the values of its children.
-#[derive(Clone, Copy)]
-pub enum Op {
+#[derive(Drop)]
+pub enum Op<'a> {
     Operator(BinaryOp),
-    BuiltIn(Form),
+    BuiltIn(PlainForm),
+    /// A property is read, and set.
+    GetKey(&'a Name),
+    SetKey(&'a Name),
+    /// An object with the keys of these properties.
+    MakeObject(&'a [Property]),
+    /// A call with this receiver.
+    CallOf(Sound),
 }
 
 /// The children of an expression that are missing.
@@ -46,29 +80,45 @@ pub enum Op {
 pub enum Parts<'a> {
     /// Both operands.
     Both(&'a Expr, &'a Expr),
-    /// The right operand.
+    /// The right operand, or the only one.
     Right(&'a Expr),
-    /// The parts of a built-in form from some part on.
+    /// The function that is called and its arguments.
+    Callee(&'a Expr, &'a [Expr]),
+    /// The arguments or parts from some one on.
     List(&'a [Expr]),
+    /// The values of the properties from some one on.
+    Values(&'a [Property]),
 }
 
-/// What waits for a value or a completion.
+/// An expression that waits: its children's values so far and the children that are missing.
+#[derive(Drop)]
+pub struct Waiting<'a> {
+    pub op: Op<'a>,
+    pub values: Vec<Sound>,
+    pub rest: Parts<'a>,
+}
+
+/// What waits for a value or a completion. A run may have millions of frames, so the largest kind stands in a box.
 #[derive(Drop)]
 pub enum Frame<'a> {
-    /// An expression, with its children's values so far and the children that are missing.
-    Pending(Op, Vec<Sound>, Parts<'a>),
+    Pending(Box<Waiting<'a>>),
+    /// A call of a property with these arguments: its base is missing, or the property itself.
+    Base(&'a Name, &'a [Expr]),
+    Callee(Sound, &'a [Expr]),
     /// A const: the name that waits for its value, and the items behind it.
     Const(&'a Name, &'a [ConstItem]),
-    /// A statement that drops its expression's value.
+    /// A statement that drops its expression's value, and one that returns it.
     Value,
-    /// A list: the statements behind the one under way, and the scopes that come back, innermost first.
-    List(&'a [Stmt], Vec<usize>),
-}
-
-/// A thing of the heap.
-#[derive(Drop)]
-pub enum Thing {
-    Failure(ErrorName, Units),
+    Return,
+    /// The branch behind a test.
+    If(&'a [Stmt]),
+    /// The block of a try, with its last part and the scopes round it; and the last part, with the completion that is kept.
+    Try(&'a [Stmt], Chain),
+    Last(Completion),
+    /// A list: the statements behind the one under way, and the scopes that come back.
+    List(&'a [Stmt], Chain),
+    /// A function's body: the caller's scopes and receiver.
+    Call(Chain, Sound),
 }
 
 /// The state of a run.
@@ -78,33 +128,48 @@ pub struct Target<'a> {
     pub task: Task<'a>,
     /// The frame on top is the last.
     pub frames: Vec<Frame<'a>>,
-    /// The numbers of the open scopes, innermost first.
-    pub scope: Vec<usize>,
+    /// The open scopes, and the value of `this`.
+    pub scope: Chain,
+    pub receiver: Sound,
     pub scopes: Vec<Scope>,
-    pub heap: Vec<Thing>,
+    pub heap: Vec<Thing<'a>>,
+    pub shown: ShownThings,
     /// The host events that are left, the next one last.
     pub events: Vec<Event>,
     pub trace: Vec<TraceEvent>,
     pub end: End,
 }
 
+/// The heap before the first step: the methods of every WeakMap.
+fn first_heap<'a>(alloc: Global) -> Result<Vec<Thing<'a>>, NoMemory>
+    ensures { IfOk result (λ heap. things_of heap.items ≡ first_heap Plain) }
+{
+    let mut heap = Vec::new(alloc);
+    heap.push(Thing::Native(Method::WeakMapGet))?;
+    heap.push(Thing::Native(Method::WeakMapSet))?;
+    Ok(heap)
+}
+
 impl<'a> Target<'a> {
     /// The state before the first step: the program's list is to be executed.
-    pub fn new(alloc: Global, body: &'a [Stmt], events: Vec<Event>) -> Target<'a>
-        ensures { state_of result ≡ start (stmts_view body.now) events.items }
+    pub fn new(alloc: Global, body: &'a [Stmt], events: Vec<Event>) -> Result<Target<'a>, NoMemory>
+        ensures { IfOk result (λ t. state_of t ≡ start Plain (stmts_view body.now) events.items) }
     {
         let mut left = events;
         left.reverse();
-        Target {
+        let heap = first_heap(alloc)?;
+        Ok(Target {
             alloc,
             task: Task::ExecList(body),
             frames: Vec::new(alloc),
-            scope: Vec::new(alloc),
+            scope: Chain::Outermost,
+            receiver: Sound::undefined(),
             scopes: Vec::new(alloc),
-            heap: Vec::new(alloc),
+            heap,
+            shown: ShownThings::new(alloc),
             events: left,
             trace: Vec::new(alloc),
             end: End::Going,
-        }
+        })
     }
 }

@@ -4,11 +4,11 @@ ghost use Rattle.std.specs.Prelude.{◌≡◌, IfOk, IfSome, IsTrue};
 ghost use Rattle.actx_data.specs.Number.{IsWhole};
 ghost use Rattle.actx_data.specs.Units.{joined};
 ghost use Rattle.actx_top.specs.Sound.{is_sound};
-ghost use Rattle.actx_top.specs.Operators.{plus, minus, times, binary, primitive_text, truth_text, join_before, join_after, number_or_leaves, text_or_leaves};
+ghost use Rattle.actx_top.specs.Operators.{plus, minus, times, binary, same, is_true, primitive_text, truth_text, join_before, join_after, number_or_leaves, text_or_leaves};
 ghost use Rattle.actx_top.specs.View.{answer_view};
 
 use crate::sound::Sound;
-use actx_data::{NoMemory, Twin, Units, Value, add, join, mul, number_text, sub};
+use actx_data::{ErrorName, NoMemory, Twin, Units, Value, add, join, mul, number_text, sub};
 use actx_parse::tree::BinaryOp;
 use std::alloc::Global;
 
@@ -16,6 +16,9 @@ use std::alloc::Global;
 #[derive(Drop)]
 pub enum Answer {
     Gives(Sound),
+    /// An error of this name is thrown.
+    Throws(ErrorName),
+    /// The run leaves the profile.
     Leaves,
 }
 
@@ -131,6 +134,35 @@ fn times(a: &Value, b: &Value) -> Answer
     }
 }
 
+/// `===`: primitives by their values, things by their numbers (ECMA-262, 7.2.15).
+fn same(a: &Value, b: &Value) -> bool
+    ensures { result ≡ same a.now b.now }
+{
+    match (a, b) {
+        (Value::Undefined, Value::Undefined) => true,
+        (Value::Null, Value::Null) => true,
+        (Value::Truth(x), Value::Truth(y)) => *x == *y,
+        (Value::Num(x), Value::Num(y)) => *x == *y,
+        (Value::Text(x), Value::Text(y)) => x.as_slice() == y.as_slice(),
+        (Value::Thing(x), Value::Thing(y)) => *x == *y,
+        _ => false,
+    }
+}
+
+/// Whether a test of the value succeeds (ECMA-262, 7.1.2).
+pub fn is_true(value: &Value) -> bool
+    ensures { result ≡ is_true value.now }
+{
+    match value {
+        Value::Undefined => false,
+        Value::Null => false,
+        Value::Truth(truth) => *truth,
+        Value::Num(n) => *n != 0,
+        Value::Text(units) => !units.as_slice().is_empty(),
+        Value::Thing(_) => true,
+    }
+}
+
 /// What an operator makes of two values.
 pub fn binary(alloc: Global, op: BinaryOp, a: &Sound, b: &Sound) -> Result<Answer, NoMemory>
     ensures { IfOk result (λ answer. answer_view answer ≡ binary op a.now b.now) }
@@ -139,5 +171,6 @@ pub fn binary(alloc: Global, op: BinaryOp, a: &Sound, b: &Sound) -> Result<Answe
         BinaryOp::Add => plus(alloc, a.value(), b.value()),
         BinaryOp::Sub => Ok(minus(a.value(), b.value())),
         BinaryOp::Mul => Ok(times(a.value(), b.value())),
+        BinaryOp::Same => Ok(Answer::Gives(Sound::truth(same(a.value(), b.value())))),
     }
 }

@@ -1,12 +1,11 @@
 //! One scope: its names in the order of their declarations, each with its value once that is there.
 
-ghost use Rattle.std.specs.Prelude.{◌≡◌, [], map, OnOk, IfOk};
-ghost use Rattle.std.specs.Map.{lookup};
-ghost use Rattle.indexmap.specs.IndexMap.{insert_entry};
+ghost use Rattle.std.specs.Prelude.{◌≡◌, ◌++◌, [], map, OnOk, IfOk, option_map, position};
+ghost use Rattle.std.specs.Option.{option_copied};
 ghost use Rattle.actx_parse.specs.Lexical.{same_text};
-ghost use Rattle.actx_top.specs.Cells.{cell_in};
-ghost use Rattle.actx_top.specs.Machine.{cell_of, set_cell, with_name};
-ghost use Rattle.actx_top.specs.Scope.{reading_of, found_value, standing_of};
+ghost use Rattle.actx_top.specs.Cells.{cell_in, named_cell, cells_in, slot_of, found_cell, Replaced};
+ghost use Rattle.actx_top.specs.State.{cell_of, set_cell, with_cell, unset, param};
+ghost use Rattle.actx_top.specs.View.{reading_of, found_value, standing_of};
 
 use crate::sound::Sound;
 use actx_data::{NoMemory, Twin};
@@ -25,97 +24,185 @@ pub enum Reading {
     Value(Sound),
 }
 
-/// How far a name has come in a scope.
+/// What a scope has for a name: its value once that is there, and whether that stays.
+#[derive(Drop)]
+pub struct Slot {
+    pub value: Option<Sound>,
+    pub constant: bool,
+}
+
+/// Whether a name may be given a value: it is declared, and no constant that has one.
 #[derive(Clone, Copy)]
 enum Standing {
-    Unbound,
-    Unset,
-    Set,
+    Fixed,
+    /// And whether it is a constant.
+    Open(bool),
 }
 
-/// The names of a scope with their values, seen as the list of its cells.
+/// A name of a scope with its slot.
+#[derive(Drop)]
+struct Named {
+    name: Name,
+    slot: Slot,
+}
+
+/// The names of a scope with their values, seen as the list of its cells. A run may have millions of scopes, nearly all
+/// with a few names, so the first names stand in a list, and only the further ones in a table, which takes more memory.
 #[derive(Drop)]
 pub struct Scope {
-    names: IndexMap<Name, Option<Sound>>,
+    first: Vec<Named>,
+    further: Option<Box<IndexMap<Name, Slot>>>,
 }
 
+/// How many names stand in the list: few enough that one is found by looking at all.
+const FIRST: usize = 8;
+
 impl Model for Scope {
-    ghost use Rattle.std.specs.Prelude.{List, map};
-    ghost use Rattle.actx_top.specs.Machine.{Cell};
-    ghost use Rattle.actx_top.specs.Cells.{cell_in};
+    ghost use Rattle.std.specs.Prelude.{List, map, ◌++◌};
+    ghost use Rattle.actx_top.specs.State.{Cell};
+    ghost use Rattle.actx_top.specs.Cells.{named_cell, cells_in};
 
     ghost Value = { List Cell };
 
-    ghost view = { λ s. map cell_in s.names.entries };
+    ghost view = { λ s. map named_cell s.first.items ++ cells_in s.further };
 }
 
-/// What a name is in a table of names.
-fn found(
-    alloc: Global,
-    names: &IndexMap<Name, Option<Sound>>,
-    name: &Name,
-) -> Result<Reading, NoMemory>
-    ensures { IfOk result (λ reading. reading_of reading ≡ lookup (same_text name.now) names.now.entries) }
+/// What a name is whose slot is this.
+fn made_of(alloc: Global, slot: Option<&Slot>) -> Result<Reading, NoMemory>
+    ensures { IfOk result (λ reading. reading_of reading ≡ found_value (option_copied slot.entry)) }
 {
-    match names.get(name) {
+    match slot {
         None => Ok(Reading::Unbound),
-        Some(None) => Ok(Reading::Unset),
-        Some(Some(value)) => Ok(Reading::Value(value.copy(alloc)?)),
+        Some(slot) => match &slot.value {
+            None => Ok(Reading::Unset),
+            Some(value) => Ok(Reading::Value(value.copy(alloc)?)),
+        },
     }
 }
 
-/// How far a name has come in a table of names.
-fn standing_in(names: &IndexMap<Name, Option<Sound>>, name: &Name) -> Standing
-    ensures { result ≡ standing_of (lookup (same_text name.now) names.now.entries) }
+impl Named {
+    /// Whether this is the slot of that name.
+    fn is_named(&self, name: &Name) -> bool
+        ensures { result ≡ same_text name.now self.now.name }
+    {
+        *name == self.name
+    }
+
+    /// Gives the name this slot.
+    fn give(&mut self, slot: Slot)
+        ensures { named_cell self.new ≡ cell_in (self.old.name, slot) }
+    {
+        self.slot = slot;
+    }
+}
+
+/// The slot of a name in a list of names.
+fn slot_among<'a>(names: &'a [Named], name: &Name) -> Option<&'a Slot>
+    ensures { option_copied result ≡ option_map slot_of (cell_of name.now (map named_cell names.now)) }
 {
-    match names.get(name) {
-        None => Standing::Unbound,
-        Some(None) => Standing::Unset,
-        Some(Some(_)) => Standing::Set,
+    match names {
+        [] => None,
+        [head, rest @ ..] => {
+            if head.is_named(name) {
+                Some(&head.slot)
+            } else {
+                slot_among(rest, name)
+            }
+        }
+    }
+}
+
+/// The slot of a name in a table of names, where there is one.
+#[tactic(auto, using(crate::proofs::Cells::looked_up))]
+fn slot_further<'a>(table: &'a Option<Box<IndexMap<Name, Slot>>>, name: &Name) -> Option<&'a Slot>
+    ensures { option_copied result ≡ option_map slot_of (cell_of name.now (cells_in table.now)) }
+{
+    match table {
+        None => None,
+        Some(table) => table.get(name),
+    }
+}
+
+/// How far a name has come whose slot is this.
+fn standing_of(slot: Option<&Slot>) -> Standing
+    ensures { result ≡ standing_of (option_copied slot.entry) }
+{
+    match slot {
+        None => Standing::Fixed,
+        Some(slot) => match &slot.value {
+            None => Standing::Open(slot.constant),
+            Some(_) => {
+                if slot.constant {
+                    Standing::Fixed
+                } else {
+                    Standing::Open(false)
+                }
+            }
+        },
+    }
+}
+
+/// The place of a name in a list of names.
+fn place_among(names: &[Named], name: &Name) -> Option<usize>
+    ensures { result ≡ position (λ n. same_text name.now n.name) names.now }
+{
+    names.iter().position(|named| named.is_named(name))
+}
+
+/// Gives a name of a list this slot; where the name isn't there, the slot comes back.
+fn replace(names: &mut Vec<Named>, name: &Name, slot: Slot) -> Option<Slot>
+    ensures { Replaced name.now slot (map named_cell names.old.items) (map named_cell names.new.items) result }
+{
+    match place_among(names, name) {
+        None => Some(slot),
+        Some(place) => match names.get_mut(place) {
+            None => Some(slot),
+            Some(named) => {
+                named.give(slot);
+                None
+            }
+        },
     }
 }
 
 /// Puts a name into a table of names; one that is there keeps its place.
-fn put(
+#[tactic(auto, using(crate::proofs::Cells::inserted))]
+fn insert(
     alloc: Global,
-    names: &mut IndexMap<Name, Option<Sound>>,
+    table: &mut IndexMap<Name, Slot>,
     name: &Name,
-    value: Option<Sound>,
+    slot: Slot,
 ) -> Result<(), NoMemory>
-    ensures { OnOk result (names.new.entries ≡ insert_entry same_text names.old.entries name.now value) }
+    ensures { OnOk result (map cell_in table.new.entries ≡ with_cell (cell_in (name.now, slot)) (map cell_in table.old.entries)) }
 {
-    names.insert(name.copy(alloc)?, value)?;
+    table.insert(name.copy(alloc)?, slot)?;
     Ok(())
 }
 
-/// Declares a name in a table of names.
-fn declare_in(
+/// Puts a name that isn't among the first: behind them where there is room, else into the table.
+fn add(
     alloc: Global,
-    names: &mut IndexMap<Name, Option<Sound>>,
+    first: &mut Vec<Named>,
+    further: &mut Option<Box<IndexMap<Name, Slot>>>,
     name: &Name,
+    slot: Slot,
 ) -> Result<(), NoMemory>
-    ensures { OnOk result (map cell_in names.new.entries ≡ with_name name.now (map cell_in names.old.entries)) }
+    ensures { OnOk result (map named_cell first.new.items ++ cells_in further.new ≡ map named_cell first.old.items ++ with_cell (cell_in (name.now, slot)) (cells_in further.old)) }
 {
-    match standing_in(names, name) {
-        Standing::Unbound => put(alloc, names, name, None),
-        Standing::Unset => Ok(()),
-        Standing::Set => Ok(()),
-    }
-}
-
-/// Gives a declared name of a table its value.
-fn set_in(
-    alloc: Global,
-    names: &mut IndexMap<Name, Option<Sound>>,
-    name: &Name,
-    value: Sound,
-) -> Result<(), NoMemory>
-    ensures { OnOk result (map cell_in names.new.entries ≡ set_cell name.now value (map cell_in names.old.entries)) }
-{
-    match standing_in(names, name) {
-        Standing::Unbound => Ok(()),
-        Standing::Unset => put(alloc, names, name, Some(value)),
-        Standing::Set => Ok(()),
+    match further {
+        Some(table) => insert(alloc, table, name, slot),
+        None => {
+            if first.len() < FIRST {
+                let name = name.copy(alloc)?;
+                first.reserve_exact(1)?;
+                first.push(Named { name, slot })?;
+            } else {
+                let mut table = IndexMap::new(alloc);
+                insert(alloc, &mut table, name, slot)?;
+                *further = Some(Box::new(alloc, table)?);
+            }
+            Ok(())
+        }
     }
 }
 
@@ -125,28 +212,66 @@ impl Scope {
         ensures { result ≡ [] }
     {
         Scope {
-            names: IndexMap::new(alloc),
+            first: Vec::new(alloc),
+            further: None,
+        }
+    }
+
+    /// The slot of a name that is declared here.
+    fn slot(&self, name: &Name) -> Option<&Slot>
+        ensures { option_copied result ≡ option_map slot_of (cell_of name.now self.now) }
+    {
+        match slot_among(&self.first, name) {
+            Some(slot) => Some(slot),
+            None => slot_further(&self.further, name),
         }
     }
 
     /// What a name is here.
     pub fn read(&self, alloc: Global, name: &Name) -> Result<Reading, NoMemory>
-        ensures { IfOk result (λ reading. reading_of reading ≡ found_value (cell_of name.now self.now)) }
+        ensures { IfOk result (λ reading. reading_of reading ≡ found_cell (cell_of name.now self.now)) }
     {
-        found(alloc, &self.names, name)
+        made_of(alloc, self.slot(name))
     }
 
-    /// Declares a name, without a value; a name that is declared stays as it is.
+    /// Puts a name here with its slot; a name that is there keeps its place.
+    fn put(&mut self, alloc: Global, name: &Name, slot: Slot) -> Result<(), NoMemory>
+        ensures { OnOk result (self.new ≡ with_cell (cell_in (name.now, slot)) self.old) }
+    {
+        match replace(&mut self.first, name, slot) {
+            None => Ok(()),
+            Some(slot) => add(alloc, &mut self.first, &mut self.further, name, slot),
+        }
+    }
+
+    /// Declares a constant, without a value.
     pub fn declare(&mut self, alloc: Global, name: &Name) -> Result<(), NoMemory>
-        ensures { OnOk result (self.new ≡ with_name name.now self.old) }
+        ensures { OnOk result (self.new ≡ with_cell (unset name.now) self.old) }
     {
-        declare_in(alloc, &mut self.names, name)
+        let value = None;
+        let constant = true;
+        self.put(alloc, name, Slot { value, constant })
     }
 
-    /// Gives a declared name its value; a name that has one keeps it, since all names are constants.
+    /// Binds a parameter to its value.
+    pub fn bind(&mut self, alloc: Global, name: &Name, value: Sound) -> Result<(), NoMemory>
+        ensures { OnOk result (self.new ≡ with_cell (param name.now value) self.old) }
+    {
+        let value = Some(value);
+        let constant = false;
+        self.put(alloc, name, Slot { value, constant })
+    }
+
+    /// Gives a declared name its value; a constant that has one keeps it.
     pub fn set(&mut self, alloc: Global, name: &Name, value: Sound) -> Result<(), NoMemory>
         ensures { OnOk result (self.new ≡ set_cell name.now value self.old) }
     {
-        set_in(alloc, &mut self.names, name, value)
+        match standing_of(self.slot(name)) {
+            Standing::Fixed => Ok(()),
+            Standing::Open(constant) => {
+                let value = Some(value);
+                self.put(alloc, name, Slot { value, constant })
+            }
+        }
     }
 }

@@ -46,6 +46,15 @@ impl Sound {
         }
     }
 
+    /// A truth value.
+    pub fn truth(truth: bool) -> Sound
+        ensures { result ≡ Value.Truth truth }
+    {
+        Sound {
+            value: Value::Truth(truth),
+        }
+    }
+
     /// A text.
     pub fn text(units: Units) -> Sound
         ensures { result ≡ Value.Text units }

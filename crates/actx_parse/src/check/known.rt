@@ -1,6 +1,9 @@
-//! The names that are bound so far, in a table, so that each look-up takes the same time however many there are.
+//! The names that are known at a place, in a table, so that each look-up takes the same time however many there are.
 
-ghost use Rattle.std.specs.Prelude.{◌≡◌, ◌↔◌, ◌∷◌, [], IsTrue, IfOk, Contains};
+ghost use Rattle.std.specs.Prelude.{◌≡◌, ◌↔◌, [], IsTrue, IfOk, OnOk, Contains, length, not, take};
+ghost use Rattle.std.specs.List.{list_any};
+ghost use Rattle.indexmap.specs.IndexSet.{insert_key};
+ghost use Rattle.actx_parse.specs.Lexical.{same_text};
 
 use crate::name::Name;
 use actx_data::{NoMemory, Twin};
@@ -8,18 +11,18 @@ use indexmap::IndexSet;
 use std::alloc::Global;
 use std::marker::Model;
 
-/// The names that are bound so far, seen as the list of them with the newest first.
+/// The names that are known, seen as the list of them in the order in which they became known, each once.
 #[derive(Drop)]
 pub struct Known {
     names: IndexSet<Name>,
 }
 
 impl Model for Known {
-    ghost use Rattle.std.specs.Prelude.{List, ℕ, reverse};
+    ghost use Rattle.std.specs.Prelude.{List, ℕ};
 
     ghost Value = { List (List ℕ) };
 
-    ghost view = { λ k. reverse k.names.keys };
+    ghost view = { λ k. k.names.keys };
 }
 
 impl Known {
@@ -39,12 +42,26 @@ impl Known {
         self.names.contains(name)
     }
 
-    /// Adds a name, and says whether it wasn't among them.
+    /// How many there are.
+    pub fn len(&self) -> usize
+        ensures { result ≡ length self.now }
+    {
+        self.names.len()
+    }
+
+    /// Adds a name behind the others, where it isn't among them, and says whether it wasn't.
     pub fn add(&mut self, alloc: Global, name: &Name) -> Result<bool, NoMemory>
-        ensures new { IfOk result (λ new. IsTrue new ↔ (Contains self.old name.now → ⊥)) }
-        ensures added { IfOk result (λ new. IsTrue new → self.new ≡ name.now ∷ self.old) }
+        ensures new { IfOk result (λ new. new ≡ not (list_any (same_text name.now) self.old)) }
+        ensures added { OnOk result (self.new ≡ insert_key same_text self.old name.now) }
     {
         let new = self.names.insert(name.copy(alloc)?)?;
         Ok(new)
+    }
+
+    /// Leaves the first names alone, this many.
+    pub fn leave(&mut self, count: usize)
+        ensures { self.new ≡ take count self.old }
+    {
+        self.names.truncate(count);
     }
 }

@@ -1,111 +1,166 @@
-//! Programs that keep the static rules and programs that don't, as trees.
+//! Programs that keep the static rules and programs that don't, as texts.
 
-use super::*;
-use crate::tree::BinaryOp;
+use super::check;
+use crate::lex::lex;
+use crate::parse::parse_source;
+use std::alloc::Global;
 use std::test::Fail;
 
-fn name(alloc: Global, text: &str) -> Result<Name, Fail> {
-    let chars: Vec<char> = text.chars().collect(alloc)?;
-    Ok(Name::from_vec(chars))
-}
-
-fn named(alloc: Global, text: &str) -> Result<Expr, Fail> {
-    Ok(Expr::Named(name(alloc, text)?))
-}
-
-/// `text + text`
-fn twice(alloc: Global, text: &str) -> Result<Expr, Fail> {
-    let left = Box::new(alloc, named(alloc, text)?)?;
-    let right = Box::new(alloc, named(alloc, text)?)?;
-    Ok(Expr::Binary(BinaryOp::Add, left, right))
-}
-
-/// `console.log(part)`
-fn log(alloc: Global, part: Expr) -> Result<Expr, Fail> {
-    let mut parts = Vec::new(alloc);
-    parts.push(part)?;
-    Ok(Expr::Form(Form::Log, parts))
-}
-
-fn item(alloc: Global, text: &str, value: Expr) -> Result<ConstItem, Fail> {
-    Ok(ConstItem {
-        name: name(alloc, text)?,
-        value,
-    })
-}
-
-/// `const text = value;`
-fn one(alloc: Global, text: &str, value: Expr) -> Result<Stmt, Fail> {
-    let mut items = Vec::new(alloc);
-    items.push(item(alloc, text, value)?)?;
-    Ok(Stmt::Const(items))
-}
-
-/// `const first = 1, second = value;`
-fn pair(alloc: Global, first: &str, second: &str, value: Expr) -> Result<Stmt, Fail> {
-    let mut items = Vec::new(alloc);
-    items.push(item(alloc, first, Expr::Num(1))?)?;
-    items.push(item(alloc, second, value)?)?;
-    Ok(Stmt::Const(items))
-}
-
-/// Whether the program of two statements is taken.
-fn takes(alloc: Global, first: Stmt, second: Stmt) -> Result<bool, Fail> {
-    let mut body = Vec::new(alloc);
-    body.push(first)?;
-    body.push(second)?;
-    Ok(check(alloc, &Program { body })?)
+/// Whether the program of a text is taken.
+fn takes(alloc: Global, text: &str) -> Result<bool, Fail> {
+    let tokens = lex(alloc, text.as_bytes())?;
+    let program = parse_source(alloc, &tokens)?;
+    Ok(check(alloc, &program)?)
 }
 
 #[test]
-fn names_are_bound_once_and_before_they_are_used(rt: HostRuntime) -> Result<(), Fail> {
-    let alloc = rt.alloc();
-    let empty = Program {
-        body: Vec::new(alloc),
-    };
-    assert!(rt; check(alloc, &empty)?);
-    let print = Stmt::Value(log(alloc, twice(alloc, "b")?)?);
-    assert!(rt; takes(alloc, pair(alloc, "a", "b", named(alloc, "a")?)?, print)?);
-    let early = one(alloc, "a", named(alloc, "a")?)?;
-    assert!(rt; !takes(alloc, early, one(alloc, "b", Expr::Num(1))?)?);
-    let again = one(alloc, "b", Expr::Num(1))?;
-    assert!(rt; !takes(alloc, pair(alloc, "a", "a", Expr::Num(2))?, again)?);
-    let again = one(alloc, "b", Expr::Num(1))?;
-    assert!(rt; !takes(alloc, pair(alloc, "a", "b", Expr::Num(2))?, again)?);
-    let print = Stmt::Value(log(alloc, twice(alloc, "b")?)?);
-    assert!(rt; !takes(alloc, one(alloc, "a", Expr::Num(1))?, print)?);
-    Ok(())
-}
-
-#[test]
-fn reserved_names_are_not_bound(rt: HostRuntime) -> Result<(), Fail> {
-    let alloc = rt.alloc();
+fn each_name_is_known(rt: HostRuntime) -> Result<(), Fail> {
     let cases = [
-        ("eval", false),
-        ("arguments", false),
-        ("NaN", false),
-        ("Infinity", false),
-        ("undefined", false),
-        ("evals", true),
+        ("", true),
+        ("const a = 1; const b = a + a;", true),
+        ("const b = a; const a = 1;", true),
+        ("const a = a;", true),
+        ("const f = () => a; const a = 1;", true),
+        (
+            "const f = () => { const g = () => b; const b = 1; return g; };",
+            true,
+        ),
+        ("const a = b;", false),
+        ("const a = 1, b = a + c;", false),
+        ("const a = 1, b = c + a;", false),
+        ("const a = 1; console.log(a, b);", false),
+        ("const f = () => 1; f(1, a);", false),
+        ("a();", false),
+        ("a.get();", false),
+        ("const f = () => { return a; };", false),
+        ("const f = (x) => x; const a = x;", false),
+        (
+            "const f = () => { const x = 1; return x; }; const a = x;",
+            false,
+        ),
+        ("const f = (x) => { const g = (y) => y; return y; };", false),
     ];
     for (text, want) in cases {
-        let last = one(alloc, text, Expr::Num(1))?;
-        let taken = takes(alloc, one(alloc, "a", Expr::Num(1))?, last)?;
-        assert_eq!(rt; taken, want, "at {text}");
+        assert_eq!(rt; takes(rt.alloc(), text)?, want, "at {text}");
     }
     Ok(())
 }
 
 #[test]
-fn only_constants_and_printed_lines_are_taken(rt: HostRuntime) -> Result<(), Fail> {
-    let alloc = rt.alloc();
-    let inner = log(alloc, Expr::Num(1))?;
-    let nested = Stmt::Value(log(alloc, inner)?);
-    assert!(rt; !takes(alloc, one(alloc, "a", Expr::Num(1))?, nested)?);
-    let number = Stmt::Value(Expr::Num(1));
-    assert!(rt; !takes(alloc, one(alloc, "a", Expr::Num(1))?, number)?);
-    let printed = Expr::Form(Form::Log, Vec::new(alloc));
-    let bound = one(alloc, "a", printed)?;
-    assert!(rt; !takes(alloc, bound, one(alloc, "b", Expr::Num(1))?)?);
+fn each_scope_binds_a_name_once(rt: HostRuntime) -> Result<(), Fail> {
+    let cases = [
+        ("const a = 1, a = 2;", false),
+        ("const a = 1; const b = 2; const a = 3;", false),
+        ("const f = (x, x) => 1;", false),
+        ("const f = (x) => { const x = 1; };", false),
+        (
+            "const f = () => { const x = 1, y = 2; const x = 3; };",
+            false,
+        ),
+        ("const a = 1; const f = (a) => a;", true),
+        (
+            "const a = 1; const f = () => { const a = 2; return a; }; const b = a;",
+            true,
+        ),
+        (
+            "const f = (x) => { const g = (y) => { const x = y; return x; }; return g(x); };",
+            true,
+        ),
+        ("const f = (x) => 1, g = (x) => x;", true),
+    ];
+    for (text, want) in cases {
+        assert_eq!(rt; takes(rt.alloc(), text)?, want, "at {text}");
+    }
+    Ok(())
+}
+
+#[test]
+fn reserved_names_are_not_bound(rt: HostRuntime) -> Result<(), Fail> {
+    let cases = [
+        ("const eval = 1;", false),
+        ("const arguments = 1;", false),
+        ("const NaN = 1;", false),
+        ("const Infinity = 1;", false),
+        ("const undefined = 1;", false),
+        ("const f = (arguments) => 1;", false),
+        ("const f = () => { const eval = 1; };", false),
+        ("const evals = 1, Eval = 2, eva = 3;", true),
+    ];
+    for (text, want) in cases {
+        assert_eq!(rt; takes(rt.alloc(), text)?, want, "at {text}");
+    }
+    Ok(())
+}
+
+#[test]
+fn a_return_stands_in_a_function(rt: HostRuntime) -> Result<(), Fail> {
+    let cases = [
+        ("return;", false),
+        ("return 1;", false),
+        ("const f = () => 1; return f;", false),
+        ("const f = () => { return; };", true),
+        ("const f = () => { return 1; };", true),
+    ];
+    for (text, want) in cases {
+        assert_eq!(rt; takes(rt.alloc(), text)?, want, "at {text}");
+    }
+    Ok(())
+}
+
+#[test]
+fn a_variable_takes_an_object_of_no_prototype(rt: HostRuntime) -> Result<(), Fail> {
+    let cases = [
+        ("const v = new AsyncContext.Variable();", true),
+        ("const v = new AsyncContext.Variable({});", true),
+        (
+            "const v = new AsyncContext.Variable({ name: \"v\", defaultValue: 1 });",
+            true,
+        ),
+        (
+            "const v = new AsyncContext.Variable({ __proto__: 1 });",
+            false,
+        ),
+        (
+            "const v = new AsyncContext.Variable({ \"__proto__\": 1 });",
+            false,
+        ),
+        (
+            "const v = new AsyncContext.Variable({ name: \"v\", __proto__: 1 });",
+            false,
+        ),
+        ("const v = new AsyncContext.Variable({ name: a });", false),
+        ("const v = new AsyncContext.Variable({ name: {} });", false),
+        ("const v = new AsyncContext.Variable(1);", false),
+    ];
+    for (text, want) in cases {
+        assert_eq!(rt; takes(rt.alloc(), text)?, want, "at {text}");
+    }
+    Ok(())
+}
+
+#[test]
+fn only_some_forms_are_taken(rt: HostRuntime) -> Result<(), Fail> {
+    let cases = [
+        ("const a = undefined, b = \"b\", c = 1 + 2 - 3 * 4;", true),
+        ("const f = (x, y) => x; f(1, f(2, 3)); (() => 1)();", true),
+        (
+            "const v = 1; v.get(); v.run(1, 2); console.log(v.name);",
+            true,
+        ),
+        ("const v = 1; v.set(1);", false),
+        ("const a = this;", false),
+        ("const a = 1 === 1;", false),
+        ("const a = 1; a.name = 1;", false),
+        ("const a = { b: 1 };", false),
+        ("const f = function () { };", false),
+        ("console.log(this);", false),
+        ("{ }", false),
+        ("if (1) { }", false),
+        ("try { } finally { }", false),
+        ("const f = () => { { } };", false),
+    ];
+    for (text, want) in cases {
+        assert_eq!(rt; takes(rt.alloc(), text)?, want, "at {text}");
+    }
     Ok(())
 }

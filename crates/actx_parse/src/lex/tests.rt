@@ -4,13 +4,25 @@ use super::super::emit::emit;
 use super::*;
 use std::test::Fail;
 
-/// A letter for each token: n for a name, k for a reserved word, d for a number, t for a text and s for a sign.
-fn letters_of(alloc: Global, tokens: &[TokenKind]) -> Result<String, AllocError> {
+/// A letter for each token: n for a name, k for a reserved word, d for a number, t for a text and s for a sign; and a
+/// bar where a line end stands before it.
+fn letters_of(alloc: Global, tokens: &[Token]) -> Result<String, AllocError> {
     let mut letters = String::new(alloc);
     for token in tokens {
-        letters.push(letter_of(token))?;
+        if token.line_before {
+            letters.push('|')?;
+        }
+        letters.push(letter_of(&token.kind))?;
     }
     Ok(letters)
+}
+
+fn kinds_of(alloc: Global, tokens: Vec<Token>) -> Result<Vec<TokenKind>, AllocError> {
+    let mut kinds = Vec::new(alloc);
+    for token in tokens {
+        kinds.push(token.kind)?;
+    }
+    Ok(kinds)
 }
 
 fn letter_of(token: &TokenKind) -> char {
@@ -41,7 +53,7 @@ fn texts_are_cut_and_printed(rt: HostRuntime) -> Result<(), Fail> {
         ),
         (
             "const a=1,b=a;\nlog(b)",
-            "knsdsnsnsnsns",
+            "knsdsnsns|nsns",
             "const a = 1 , b = a ;\nlog ( b )\n",
         ),
         ("0 10 9007199254740991", "ddd", "0 10 9007199254740991\n"),
@@ -64,9 +76,43 @@ fn texts_are_cut_and_printed(rt: HostRuntime) -> Result<(), Fail> {
         let tokens = lex(rt.alloc(), text.as_bytes())?;
         let kinds = letters_of(rt.alloc(), tokens.as_slice())?;
         assert_eq!(rt; kinds.as_str(), letters, "{text}");
-        let again = emit(rt.alloc(), tokens.as_slice())?;
+        let kinds = kinds_of(rt.alloc(), tokens)?;
+        let again = emit(rt.alloc(), kinds.as_slice())?;
         assert_eq!(rt; again.as_slice(), printed.as_bytes(), "{text}");
     }
+    Ok(())
+}
+
+#[test]
+fn line_ends_are_told(rt: HostRuntime) -> Result<(), Fail> {
+    let table = [
+        ("\na", "|n"),
+        (" a", "n"),
+        ("a\n", "n"),
+        ("a\nb c", "n|nn"),
+        ("a \n b", "n|n"),
+        ("a\n\n  b", "n|n"),
+        ("()\n=>a", "ss|sn"),
+        ("return\na;\n}", "k|ns|s"),
+        ("a\n.b", "n|sn"),
+        ("{ a ;\nb }\n", "sns|ns"),
+    ];
+    for (text, letters) in table {
+        let tokens = lex(rt.alloc(), text.as_bytes())?;
+        let kinds = letters_of(rt.alloc(), tokens.as_slice())?;
+        assert_eq!(rt; kinds.as_str(), letters, "{text}");
+    }
+    Ok(())
+}
+
+#[test]
+fn printed_line_ends_are_told(rt: HostRuntime) -> Result<(), Fail> {
+    let tokens = lex(rt.alloc(), b"f\n(function(){return 1;});")?;
+    let kinds = kinds_of(rt.alloc(), tokens)?;
+    let text = emit(rt.alloc(), kinds.as_slice())?;
+    let again = lex(rt.alloc(), text.as_slice())?;
+    let letters = letters_of(rt.alloc(), again.as_slice())?;
+    assert_eq!(rt; letters.as_str(), "nsksss|kds|s|ss");
     Ok(())
 }
 
@@ -81,6 +127,9 @@ fn texts_are_refused(rt: HostRuntime) {
         "1a",
         "1.5",
         "1.",
+        ".5",
+        "a.5",
+        "a?.5:b",
         "9007199254740992",
         "99999999999999999999999",
         "a\tb",

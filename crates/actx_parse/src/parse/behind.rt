@@ -1,224 +1,212 @@
 //! Behind an operand, as behind the `1` of `const a = 1 ;`.
 
-ghost use Rattle.std.specs.Prelude.{◌≡◌, IfOk, []};
-ghost use Rattle.actx_parse.specs.Grammar.{level_of, with_last};
-ghost use Rattle.actx_parse.specs.Parser.{at_have, at_sign, close, comma, made, next_item, operator, semicolon, settle};
-ghost use Rattle.actx_parse.specs.ParserView.{move_of, owner_view, settled_of, stack_view};
-ghost use Rattle.actx_parse.specs.Tree.{Binary, Built};
-ghost use Rattle.actx_parse.specs.View.{expr_view, exprs_view, stmt_view};
-ghost use Rattle.actx_parse.specs.declared.tree.Form.TheVariants.{Log};
+ghost use Rattle.std.specs.Prelude.{◌≡◌, IfOk};
+ghost use Rattle.actx_parse.specs.Parser.{at_have, at_member, at_whole, operator, settle};
+ghost use Rattle.actx_parse.specs.ParserView.{move_of, settled_of, stack_view};
+ghost use Rattle.actx_parse.specs.View.{expr_view};
+ghost use Rattle.actx_parse.specs.Grammar.{level_of};
+ghost use Rattle.actx_parse.specs.Tree.{Member};
 
+use super::ends::{close_brace, close_paren, comma, semicolon};
 use super::level::level_of;
-use super::operand::{deepest, log_form};
-use super::state::{Frame, Mode, Operand, Owner, Step};
+use super::limits::{deepest, takes_whole};
+use super::settle::settle;
+use super::stack::Stack;
+use super::state::{Frame, Mode, Operand, Step};
+use crate::name::Name;
 use crate::side::Side;
 use crate::token::{Sign, TokenKind};
-use crate::tree::{BinaryOp, ConstItem, Expr, Stmt};
+use crate::tree::{BinaryOp, Expr};
 use actx_data::NoMemory;
 use std::alloc::Global;
-use std::cmp::max;
-
-fn operation(alloc: Global, op: BinaryOp, left: Expr, right: Expr) -> Result<Expr, NoMemory>
-    ensures { IfOk result (λ e. expr_view e ≡ Binary op (expr_view left) (expr_view right)) }
-{
-    let left = Box::new(alloc, left)?;
-    Ok(Expr::Binary(op, left, Box::new(alloc, right)?))
-}
-
-/// The operand with what it ends: the operators on the stack that bind at the level at least.
-#[tactic(auto, using(crate::proofs::ParseStack::onto_last))]
-fn settle(
-    alloc: Global,
-    level: u8,
-    operand: Operand,
-    stack: &mut Vec<Frame>,
-) -> Result<Operand, NoMemory>
-    ensures { IfOk result (λ held. settle level (expr_view operand.expr) operand.reach (stack_view stack.old.items) ≡ settled_of held stack.new.items) }
-{
-    let mut held = operand;
-    while let Some(frame) = stack.pop() {
-        match frame {
-            Frame::Binary(op, left) => {
-                if level > level_of(op) {
-                    stack.push(Frame::Binary(op, left))?;
-                    break;
-                }
-                let reach = max(left.reach, held.reach);
-                let expr = operation(alloc, op, left.expr, held.expr)?;
-                held = Operand { expr, reach };
-            }
-            other => {
-                stack.push(other)?;
-                break;
-            }
-        }
-    }
-    Ok(held)
-}
 
 /// An operator: its left operand is what stands before it.
-#[tactic(auto, using(crate::proofs::ParseStack::onto_last))]
-fn operator(
-    side: Side,
-    owner: Owner,
-    op: BinaryOp,
-    left: Operand,
-    stack: &mut Vec<Frame>,
-) -> Result<Step, NoMemory>
-    ensures { IfOk result (λ r. operator side (owner_view owner) op (settled_of left stack.old.items) ≡ move_of r (stack_view stack.new.items)) }
+fn operator(side: Side, op: BinaryOp, left: Operand, stack: &mut Stack) -> Result<Step, NoMemory>
+    ensures { IfOk result (λ r. operator side op (settled_of left stack.old) ≡ move_of r (stack_view stack.new)) }
 {
     let Operand { expr, reach } = left;
     if reach < deepest(side) {
         let reach = reach + 1;
         stack.push(Frame::Binary(op, Operand { expr, reach }))?;
-        Ok(Step::Go(Mode::Need(owner)))
+        Ok(Step::Go(Mode::Need))
+    } else {
+        let _unchanged = stack.leaf_reach(); // this read tells the proof that the stack stays
+        Ok(Step::Refused)
+    }
+}
+
+fn at_operator(
+    alloc: Global,
+    side: Side,
+    op: BinaryOp,
+    operand: Operand,
+    stack: &mut Stack,
+) -> Result<Step, NoMemory>
+    ensures { IfOk result (λ r. operator side op (settle (level_of op) (expr_view operand.expr) operand.reach (stack_view stack.old)) ≡ move_of r (stack_view stack.new)) }
+{
+    let left = settle(alloc, level_of(op), operand, stack)?;
+    operator(side, op, left, stack)
+}
+
+/// A sign behind any expression.
+fn whole_sign(
+    alloc: Global,
+    operand: Operand,
+    sign: Sign,
+    stack: &mut Stack,
+) -> Result<Step, NoMemory>
+    ensures { IfOk result (λ r. at_whole (expr_view operand.expr) operand.reach (stack_view stack.old) (TokenKind.Sign sign) ≡ move_of r (stack_view stack.new)) }
+{
+    match sign {
+        Sign::CloseParen => {
+            let held = settle(alloc, 0, operand, stack)?;
+            close_paren(alloc, held, stack)
+        }
+        Sign::Comma => {
+            let held = settle(alloc, 0, operand, stack)?;
+            comma(held, stack)
+        }
+        Sign::Semicolon => {
+            let held = settle(alloc, 0, operand, stack)?;
+            semicolon(held, stack)
+        }
+        Sign::CloseBrace => {
+            let held = settle(alloc, 0, operand, stack)?;
+            close_brace(held, stack)
+        }
+        _ => {
+            let _unchanged = stack.leaf_reach(); // this read tells the proof that the stack stays
+            Ok(Step::Refused)
+        }
+    }
+}
+
+/// A token behind an expression that no operator goes on.
+pub fn at_whole(
+    alloc: Global,
+    operand: Operand,
+    token: &TokenKind,
+    stack: &mut Stack,
+) -> Result<Step, NoMemory>
+    ensures { IfOk result (λ r. at_whole (expr_view operand.expr) operand.reach (stack_view stack.old) token.now ≡ move_of r (stack_view stack.new)) }
+{
+    let _unchanged = stack.leaf_reach(); // this read tells the proof that the stack stays
+    match token {
+        TokenKind::Sign(sign) => whole_sign(alloc, operand, *sign, stack),
+        TokenKind::Name(_) => Ok(Step::Refused),
+        TokenKind::Keyword(_) => Ok(Step::Refused),
+        TokenKind::Number(_) => Ok(Step::Refused),
+        TokenKind::Text(_) => Ok(Step::Refused),
+    }
+}
+
+/// The arguments of a call begin.
+fn open_call(
+    alloc: Global,
+    side: Side,
+    operand: Operand,
+    stack: &mut Stack,
+) -> Result<Step, NoMemory>
+    ensures { IfOk result (λ r. at_have side (expr_view operand.expr) operand.reach (stack_view stack.old) (TokenKind.Sign Sign.OpenParen) ≡ move_of r (stack_view stack.new)) }
+{
+    let Operand { expr, reach } = operand;
+    if reach < deepest(side) {
+        stack.push(Frame::Call(expr, Vec::new(alloc), reach + 1))?;
+        Ok(Step::Go(Mode::Need))
+    } else {
+        let _unchanged = stack.leaf_reach(); // this read tells the proof that the stack stays
+        Ok(Step::Refused)
+    }
+}
+
+/// A property's name follows.
+fn dot(side: Side, operand: Operand, stack: &mut Stack) -> Step
+    ensures { at_have side (expr_view operand.expr) operand.reach (stack_view stack.old) (TokenKind.Sign Sign.Dot) ≡ move_of result (stack_view stack.new) }
+{
+    let _unchanged = stack.leaf_reach(); // this read tells the proof that the stack stays
+    let Operand { expr, reach } = operand;
+    if reach < deepest(side) {
+        let reach = reach + 1;
+        Step::Go(Mode::MemberName(Operand { expr, reach }))
+    } else {
+        Step::Refused
+    }
+}
+
+/// A sign behind an operand.
+fn have_sign(
+    alloc: Global,
+    side: Side,
+    operand: Operand,
+    sign: Sign,
+    stack: &mut Stack,
+) -> Result<Step, NoMemory>
+    ensures { IfOk result (λ r. at_have side (expr_view operand.expr) operand.reach (stack_view stack.old) (TokenKind.Sign sign) ≡ move_of r (stack_view stack.new)) }
+{
+    match sign {
+        Sign::Plus => at_operator(alloc, side, BinaryOp::Add, operand, stack),
+        Sign::Minus => at_operator(alloc, side, BinaryOp::Sub, operand, stack),
+        Sign::Star => at_operator(alloc, side, BinaryOp::Mul, operand, stack),
+        Sign::Same => at_operator(alloc, side, BinaryOp::Same, operand, stack),
+        Sign::Dot => Ok(dot(side, operand, stack)),
+        Sign::OpenParen => open_call(alloc, side, operand, stack),
+        _ => whole_sign(alloc, operand, sign, stack),
+    }
+}
+
+/// A token behind an operand.
+pub fn at_have(
+    alloc: Global,
+    side: Side,
+    operand: Operand,
+    token: &TokenKind,
+    stack: &mut Stack,
+) -> Result<Step, NoMemory>
+    ensures { IfOk result (λ r. at_have side (expr_view operand.expr) operand.reach (stack_view stack.old) token.now ≡ move_of r (stack_view stack.new)) }
+{
+    match token {
+        TokenKind::Sign(sign) => have_sign(alloc, side, operand, *sign, stack),
+        _ => at_whole(alloc, operand, token, stack),
+    }
+}
+
+/// A property's value follows, where the property may be set.
+fn set_member(side: Side, base: Operand, key: Name, stack: &mut Stack) -> Result<Step, NoMemory>
+    ensures { IfOk result (λ r. at_member side (expr_view base.expr) key base.reach (stack_view stack.old) (TokenKind.Sign Sign.Assign) ≡ move_of r (stack_view stack.new)) }
+{
+    if takes_whole(stack) {
+        stack.push(Frame::Set(base, key))?;
+        Ok(Step::Go(Mode::Need))
     } else {
         Ok(Step::Refused)
     }
 }
 
-/// A `console.log` with one more argument.
-#[tactic(auto, using(crate::proofs::ParseStack::one_more))]
-fn log_with(args: Vec<Expr>, last: Expr) -> Result<Expr, NoMemory>
-    ensures { IfOk result (λ e. expr_view e ≡ Built Log (with_last (exprs_view args.items) (expr_view last))) }
+/// A property that is read.
+fn member(alloc: Global, base: Operand, key: Name) -> Result<Operand, NoMemory>
+    ensures { IfOk result (λ o. (expr_view o.expr ≡ Member (expr_view base.expr) key) × (o.reach ≡ base.reach)) }
 {
-    let mut args = args;
-    args.push(last)?;
-    Ok(log_form(args))
+    let Operand { expr, reach } = base;
+    let expr = Expr::Member(Box::new(alloc, expr)?, key);
+    Ok(Operand { expr, reach })
 }
 
-/// A closing parenthesis.
-#[tactic(auto, using(crate::proofs::ParseStack::onto_last))]
-fn close(owner: Owner, held: Operand, stack: &mut Vec<Frame>) -> Result<Step, NoMemory>
-    ensures { IfOk result (λ r. close (owner_view owner) (settled_of held stack.old.items) ≡ move_of r (stack_view stack.new.items)) }
-{
-    match stack.pop() {
-        Some(Frame::Paren) => Ok(Step::Go(Mode::Have(owner, held))),
-        Some(Frame::Log(args, reach)) => {
-            let reach = max(reach, held.reach);
-            let expr = log_with(args, held.expr)?;
-            Ok(Step::Go(Mode::Have(owner, Operand { expr, reach })))
-        }
-        _ => Ok(Step::Refused),
-    }
-}
-
-#[tactic(auto, using(crate::proofs::ParseStack::item_more))]
-fn next_item(owner: Owner, value: Expr) -> Result<Step, NoMemory>
-    ensures { IfOk result (λ r. next_item (owner_view owner) (expr_view value) ≡ move_of r []) }
-{
-    match owner {
-        Owner::Statement => Ok(Step::Refused),
-        Owner::Item(mut items, name) => {
-            items.push(ConstItem { name, value })?;
-            Ok(Step::Go(Mode::ItemName(items)))
-        }
-    }
-}
-
-/// A comma: behind an argument or an item of a `const`.
-#[tactic(auto, using(crate::proofs::ParseStack::onto_last, crate::proofs::ParseStack::one_more))]
-fn comma(owner: Owner, held: Operand, stack: &mut Vec<Frame>) -> Result<Step, NoMemory>
-    ensures { IfOk result (λ r. comma (owner_view owner) (settled_of held stack.old.items) ≡ move_of r (stack_view stack.new.items)) }
-{
-    match stack.pop() {
-        None => next_item(owner, held.expr),
-        Some(Frame::Log(mut args, reach)) => {
-            let reach = max(reach, held.reach);
-            args.push(held.expr)?;
-            stack.push(Frame::Log(args, reach))?;
-            Ok(Step::Go(Mode::Need(owner)))
-        }
-        Some(_) => Ok(Step::Refused),
-    }
-}
-
-/// The statement that an expression ends.
-#[tactic(auto, using(crate::proofs::ParseStack::item_more))]
-fn made(owner: Owner, value: Expr) -> Result<Stmt, NoMemory>
-    ensures { IfOk result (λ st. stmt_view st ≡ made (owner_view owner) (expr_view value)) }
-{
-    match owner {
-        Owner::Statement => Ok(Stmt::Value(value)),
-        Owner::Item(mut items, name) => {
-            items.push(ConstItem { name, value })?;
-            Ok(Stmt::Const(items))
-        }
-    }
-}
-
-/// A semicolon: it ends the statement where nothing is open.
-#[tactic(auto, using(crate::proofs::ParseStack::onto_last))]
-fn semicolon(owner: Owner, held: Operand, stack: &mut Vec<Frame>) -> Result<Step, NoMemory>
-    ensures { IfOk result (λ r. semicolon (owner_view owner) (settled_of held stack.old.items) ≡ move_of r (stack_view stack.new.items)) }
-{
-    match stack.pop() {
-        None => Ok(Step::Ended(made(owner, held.expr)?)),
-        Some(_) => Ok(Step::Refused),
-    }
-}
-
-fn on_operator(
+/// A token behind a property: it is set, or read.
+pub fn at_member(
     alloc: Global,
     side: Side,
-    owner: Owner,
-    op: BinaryOp,
-    operand: Operand,
-    stack: &mut Vec<Frame>,
-) -> Result<Step, NoMemory>
-    ensures { IfOk result (λ r. operator side (owner_view owner) op (settle (level_of op) (expr_view operand.expr) operand.reach (stack_view stack.old.items)) ≡ move_of r (stack_view stack.new.items)) }
-{
-    let left = settle(alloc, level_of(op), operand, stack)?;
-    operator(side, owner, op, left, stack)
-}
-
-/// A sign behind an operand.
-fn on_sign(
-    alloc: Global,
-    side: Side,
-    owner: Owner,
-    operand: Operand,
-    sign: Sign,
-    stack: &mut Vec<Frame>,
-) -> Result<Step, NoMemory>
-    ensures { IfOk result (λ r. at_sign side (owner_view owner) (expr_view operand.expr) operand.reach (stack_view stack.old.items) sign ≡ move_of r (stack_view stack.new.items)) }
-{
-    match sign {
-        Sign::Plus => on_operator(alloc, side, owner, BinaryOp::Add, operand, stack),
-        Sign::Minus => on_operator(alloc, side, owner, BinaryOp::Sub, operand, stack),
-        Sign::Star => on_operator(alloc, side, owner, BinaryOp::Mul, operand, stack),
-        Sign::CloseParen => {
-            let held = settle(alloc, 0, operand, stack)?;
-            close(owner, held, stack)
-        }
-        Sign::Comma => {
-            let held = settle(alloc, 0, operand, stack)?;
-            comma(owner, held, stack)
-        }
-        Sign::Semicolon => {
-            let held = settle(alloc, 0, operand, stack)?;
-            semicolon(owner, held, stack)
-        }
-        _ => Ok(Step::Refused),
-    }
-}
-
-/// A token behind an operand.
-pub fn on_have(
-    alloc: Global,
-    side: Side,
-    owner: Owner,
-    operand: Operand,
+    base: Operand,
+    key: Name,
     token: &TokenKind,
-    stack: &mut Vec<Frame>,
+    stack: &mut Stack,
 ) -> Result<Step, NoMemory>
-    ensures { IfOk result (λ r. at_have side (owner_view owner) (expr_view operand.expr) operand.reach (stack_view stack.old.items) token.now ≡ move_of r (stack_view stack.new.items)) }
+    ensures { IfOk result (λ r. at_member side (expr_view base.expr) key base.reach (stack_view stack.old) token.now ≡ move_of r (stack_view stack.new)) }
 {
     match token {
-        TokenKind::Sign(sign) => on_sign(alloc, side, owner, operand, *sign, stack),
-        TokenKind::Name(_) => Ok(Step::Refused),
-        TokenKind::Keyword(_) => Ok(Step::Refused),
-        TokenKind::Number(_) => Ok(Step::Refused),
-        TokenKind::Text(_) => Ok(Step::Refused),
+        TokenKind::Sign(Sign::Assign) => set_member(side, base, key, stack),
+        _ => {
+            let operand = member(alloc, base, key)?;
+            at_have(alloc, side, operand, token, stack)
+        }
     }
 }

@@ -1,141 +1,76 @@
 //! Where an operand is wanted, as behind `const a =`.
 
-ghost use Rattle.std.specs.Prelude.{◌≡◌, ◌&&◌, IfOk, List, if◌then◌else◌, Some, None};
-ghost use Rattle.actx_parse.specs.Grammar.{deepest};
-ghost use Rattle.actx_parse.specs.Parser.{at_need, begin_operand, close_list, fits, Frame as Held, frame_room, go, has_room, have, leaf_reach, name_operand, operand, paren_operand, takes_more};
-ghost use Rattle.actx_parse.specs.Tree.{Built};
+ghost use Rattle.std.specs.Prelude.{◌≡◌, ◌∷◌, IfOk, List};
+ghost use Rattle.actx_parse.specs.Parser.{Frame as Held, at_need, begin_operand, close_arguments, form_of, form_or_name, go, go_if, have, key_operand, operand, suits};
+ghost use Rattle.actx_parse.specs.ParserView.{frame_view, mode_view, move_of, stack_view};
 ghost use Rattle.actx_parse.specs.View.{expr_view, exprs_view};
-ghost use Rattle.actx_parse.specs.declared.tree.Form.TheVariants.{Log};
-ghost use Rattle.actx_parse.specs.ParserView.{frame_view, move_of, owner_view, stack_view};
+ghost use Rattle.actx_parse.specs.Grammar.{count};
+ghost use Rattle.actx_parse.specs.Tree.{Built};
 
-use super::state::{Frame, Mode, Operand, Owner, Step};
-use super::word::{is_reference, is_word};
+use super::forms::form_of;
+use super::limits::{fits, has_room, suits, takes_whole};
+use super::stack::Stack;
+use super::state::{Frame, Mode, Operand, Step};
+use super::word::is_binding;
 use crate::name::Name;
 use crate::side::Side;
-use crate::token::{Sign, TokenKind};
+use crate::token::{Keyword, Sign, TokenKind};
 use crate::tree::{Expr, Form};
 use actx_data::{NoMemory, Twin};
 use std::alloc::Global;
 
-/// The greatest depth of a text.
-pub fn deepest(side: Side) -> usize
-    ensures { result ≡ deepest side }
+/// What is behind an operand without parts.
+fn have(expr: Expr, reach: usize) -> Step
+    ensures { (s : List Held) → move_of result s ≡ go (have (expr_view expr) reach) s }
 {
-    match side {
-        Side::Source => 200,
-        Side::Plain => 32_768,
+    Step::Go(Mode::Have(Operand { expr, reach }))
+}
+
+/// Goes on where the test is true.
+pub fn go_if(test: bool, mode: Mode) -> Step
+    ensures { (s : List Held) → move_of result s ≡ go_if test (mode_view mode) s }
+{
+    if test { Step::Go(mode) } else { Step::Refused }
+}
+
+/// A name, which is a reference or begins a form.
+fn form_or_name(alloc: Global, side: Side, name: &Name, stack: &mut Stack) -> Result<Step, NoMemory>
+    ensures { IfOk result (λ r. form_or_name side (form_of side name.now) name.now (stack_view stack.old) ≡ move_of r (stack_view stack.new)) }
+{
+    let _unchanged = stack.leaf_reach(); // this read tells the proof that the stack stays
+    match form_of(side, name) {
+        Some(form) => Ok(Step::Go(Mode::DotNext(form))),
+        None => Ok(go_if(is_binding(side, name), Mode::HaveName(name.copy(alloc)?))),
     }
 }
 
-fn takes_more(side: Side, count: usize) -> bool
-    ensures { result ≡ takes_more side count }
+/// A reserved word.
+fn key_operand(keyword: Keyword, stack: &mut Stack) -> Step
+    ensures { key_operand (stack_view stack.old) keyword ≡ move_of result (stack_view stack.new) }
 {
-    match side {
-        Side::Source => count < 8,
-        Side::Plain => true,
-    }
-}
-
-#[tactic(auto, using(crate::proofs::ParseStack::how_many))]
-fn frame_room(side: Side, frame: &Frame) -> bool
-    ensures { result ≡ frame_room side (frame_view frame.now) }
-{
-    match frame {
-        Frame::Log(args, _) => takes_more(side, args.len()),
-        Frame::Binary(_, _) => true,
-        Frame::Paren => true,
-    }
-}
-
-/// Whether one more operand may stand where the stack says.
-#[tactic(auto, using(crate::proofs::ParseStack::room_on_top))]
-fn has_room(side: Side, stack: &Vec<Frame>) -> bool
-    ensures { result ≡ has_room side (stack_view stack.now.items) }
-{
-    match stack.last() {
-        Some(frame) => frame_room(side, frame),
-        None => true,
-    }
-}
-
-/// How deep an operand without parts reaches, where one may begin.
-#[tactic(auto, using(crate::proofs::ParseStack::stack_length))]
-fn leaf_reach(side: Side, stack: &Vec<Frame>) -> Option<usize>
-    ensures { result ≡ (if fits side (leaf_reach (stack_view stack.now.items)) && has_room side (stack_view stack.now.items) then Some (leaf_reach (stack_view stack.now.items)) else None) }
-{
-    let reach = stack.len() + 2;
-    if reach <= deepest(side) && has_room(side, stack) {
-        Some(reach)
-    } else {
-        None
-    }
-}
-
-fn have(expr: Expr, reach: usize, owner: Owner) -> Step
-    ensures { (s : List Held) → move_of result s ≡ go (have (owner_view owner) (expr_view expr) reach) s }
-{
-    Step::Go(Mode::Have(owner, Operand { expr, reach }))
-}
-
-/// A `console.log` with these arguments.
-pub fn log_form(args: Vec<Expr>) -> Expr
-    ensures { expr_view result ≡ Built Log (exprs_view args.items) }
-{
-    Expr::Form(Form::Log, args)
-}
-
-/// Behind no further argument: the form is whole.
-#[tactic(auto, using(crate::proofs::ParseStack::onto_last))]
-fn close_list(owner: Owner, stack: &mut Vec<Frame>) -> Step
-    ensures { close_list (owner_view owner) (stack_view stack.old.items) ≡ move_of result (stack_view stack.new.items) }
-{
-    match stack.pop() {
-        Some(Frame::Log(args, reach)) => {
-            let expr = log_form(args);
-            Step::Go(Mode::Have(owner, Operand { expr, reach }))
+    match keyword {
+        Keyword::This => have(Expr::This, stack.leaf_reach()),
+        Keyword::New => {
+            let _unchanged = stack.leaf_reach(); // this read tells the proof that the stack stays
+            Step::Go(Mode::NewNext)
         }
+        Keyword::Function => go_if(takes_whole(stack), Mode::FunctionOpen),
+        _ => {
+            let _unchanged = stack.leaf_reach(); // this read tells the proof that the stack stays
+            Step::Refused
+        }
+    }
+}
+
+/// A sign.
+fn sign_operand(alloc: Global, side: Side, sign: Sign, stack: &mut Stack) -> Step
+    ensures { operand side (stack_view stack.old) (TokenKind.Sign sign) ≡ move_of result (stack_view stack.new) }
+{
+    let reach = stack.leaf_reach();
+    match sign {
+        Sign::OpenParen => Step::Go(Mode::Opened),
+        Sign::OpenBrace => go_if(takes_whole(stack), Mode::KeyNext(Vec::new(alloc), reach)),
         _ => Step::Refused,
-    }
-}
-
-/// A name, which is a reference or begins `console.log(`.
-fn name_operand(
-    alloc: Global,
-    side: Side,
-    owner: Owner,
-    name: &Name,
-    reach: usize,
-    stack: &mut Vec<Frame>,
-) -> Result<Step, NoMemory>
-    requires { reach ≡ leaf_reach (stack_view stack.old.items) }
-    ensures { IfOk result (λ r. name_operand side (owner_view owner) (stack_view stack.old.items) name.now ≡ move_of r (stack_view stack.new.items)) }
-{
-    let _unchanged = stack.len(); // this read tells the proof that the stack stays
-    if is_word(name, b"console") {
-        return Ok(Step::Go(Mode::Dot(owner)));
-    }
-    if is_reference(side, name) {
-        Ok(have(Expr::Named(name.copy(alloc)?), reach, owner))
-    } else {
-        Ok(Step::Refused)
-    }
-}
-
-#[tactic(auto, using(crate::proofs::ParseStack::onto_last))]
-fn paren_operand(
-    side: Side,
-    owner: Owner,
-    reach: usize,
-    stack: &mut Vec<Frame>,
-) -> Result<Step, NoMemory>
-    requires { reach ≡ leaf_reach (stack_view stack.old.items) }
-    ensures { IfOk result (λ r. paren_operand side (owner_view owner) (stack_view stack.old.items) ≡ move_of r (stack_view stack.new.items)) }
-{
-    if reach < deepest(side) {
-        stack.push(Frame::Paren)?;
-        Ok(Step::Go(Mode::Need(owner)))
-    } else {
-        Ok(Step::Refused)
     }
 }
 
@@ -143,21 +78,48 @@ fn paren_operand(
 fn operand(
     alloc: Global,
     side: Side,
-    owner: Owner,
     token: &TokenKind,
-    reach: usize,
-    stack: &mut Vec<Frame>,
+    stack: &mut Stack,
 ) -> Result<Step, NoMemory>
-    requires { reach ≡ leaf_reach (stack_view stack.old.items) }
-    ensures { IfOk result (λ r. operand side (owner_view owner) (stack_view stack.old.items) token.now ≡ move_of r (stack_view stack.new.items)) }
+    ensures { IfOk result (λ r. operand side (stack_view stack.old) token.now ≡ move_of r (stack_view stack.new)) }
 {
     match token {
-        TokenKind::Number(n) => Ok(have(Expr::Num(*n), reach, owner)),
-        TokenKind::Text(units) => Ok(have(Expr::Text(units.copy(alloc)?), reach, owner)),
-        TokenKind::Name(name) => name_operand(alloc, side, owner, name, reach, stack),
-        TokenKind::Sign(Sign::OpenParen) => paren_operand(side, owner, reach, stack),
-        TokenKind::Sign(_) => Ok(Step::Refused),
-        TokenKind::Keyword(_) => Ok(Step::Refused),
+        TokenKind::Number(n) => Ok(have(Expr::Num(*n), stack.leaf_reach())),
+        TokenKind::Text(units) => Ok(have(Expr::Text(units.copy(alloc)?), stack.leaf_reach())),
+        TokenKind::Name(name) => form_or_name(alloc, side, name, stack),
+        TokenKind::Keyword(keyword) => Ok(key_operand(*keyword, stack)),
+        TokenKind::Sign(sign) => Ok(sign_operand(alloc, side, *sign, stack)),
+    }
+}
+
+/// How many expressions a list has.
+#[tactic(auto, using(crate::proofs::ParseStack::how_many))]
+pub fn count(list: &Vec<Expr>) -> usize
+    ensures { result ≡ count (exprs_view list.now.items) }
+{
+    list.len()
+}
+
+/// A form with these parts, where it takes so many.
+pub fn close_form(form: Form, parts: Vec<Expr>, reach: usize) -> Step
+    ensures { (s : List Held) → go_if (suits form (count (exprs_view parts.items))) (have (Built form (exprs_view parts.items)) reach) s ≡ move_of result s }
+{
+    let fitting = suits(form, count(&parts));
+    let expr = Expr::Form(form, parts);
+    go_if(fitting, Mode::Have(Operand { expr, reach }))
+}
+
+/// No further argument stands before the closing parenthesis.
+fn close_arguments(alloc: Global, stack: &mut Stack) -> Result<Step, NoMemory>
+    ensures { IfOk result (λ r. close_arguments (stack_view stack.old) ≡ move_of r (stack_view stack.new)) }
+{
+    match stack.pop() {
+        Some(Frame::Call(callee, args, reach)) => {
+            let expr = Expr::Call(Box::new(alloc, callee)?, args);
+            Ok(have(expr, reach))
+        }
+        Some(Frame::Form(form, parts, reach)) => Ok(close_form(form, parts, reach)),
+        _ => Ok(Step::Refused),
     }
 }
 
@@ -165,30 +127,43 @@ fn operand(
 fn begin_operand(
     alloc: Global,
     side: Side,
-    owner: Owner,
     token: &TokenKind,
-    stack: &mut Vec<Frame>,
+    stack: &mut Stack,
 ) -> Result<Step, NoMemory>
-    ensures { IfOk result (λ r. begin_operand side (owner_view owner) (stack_view stack.old.items) token.now ≡ move_of r (stack_view stack.new.items)) }
+    ensures { IfOk result (λ r. begin_operand side (stack_view stack.old) token.now ≡ move_of r (stack_view stack.new)) }
 {
-    match leaf_reach(side, stack) {
-        Some(reach) => operand(alloc, side, owner, token, reach, stack),
-        None => Ok(Step::Refused),
+    if fits(side, stack.leaf_reach()) && has_room(side, stack) {
+        operand(alloc, side, token, stack)
+    } else {
+        Ok(Step::Refused)
     }
 }
 
 /// A token where an operand is wanted.
-pub fn on_need(
+pub fn at_need(
     alloc: Global,
     side: Side,
-    owner: Owner,
     token: &TokenKind,
-    stack: &mut Vec<Frame>,
+    stack: &mut Stack,
 ) -> Result<Step, NoMemory>
-    ensures { IfOk result (λ r. at_need side (owner_view owner) (stack_view stack.old.items) token.now ≡ move_of r (stack_view stack.new.items)) }
+    ensures { IfOk result (λ r. at_need side (stack_view stack.old) token.now ≡ move_of r (stack_view stack.new)) }
 {
     match token {
-        TokenKind::Sign(Sign::CloseParen) => Ok(close_list(owner, stack)),
-        _ => begin_operand(alloc, side, owner, token, stack),
+        TokenKind::Sign(Sign::CloseParen) => close_arguments(alloc, stack),
+        _ => begin_operand(alloc, side, token, stack),
     }
+}
+
+/// A token where an operand is wanted on one more frame.
+pub fn need_on(
+    alloc: Global,
+    side: Side,
+    frame: Frame,
+    token: &TokenKind,
+    stack: &mut Stack,
+) -> Result<Step, NoMemory>
+    ensures { IfOk result (λ r. at_need side (frame_view frame ∷ stack_view stack.old) token.now ≡ move_of r (stack_view stack.new)) }
+{
+    stack.push(frame)?;
+    at_need(alloc, side, token, stack)
 }

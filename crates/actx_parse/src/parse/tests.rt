@@ -1,178 +1,176 @@
-//! The parser and the spelling on small texts, cut at blanks.
+//! The parser and the spelling on small texts.
 
 use super::machine::run;
 use super::{one_tree, parse_plain, parse_source};
-use crate::name::Name;
+use crate::emit::emit;
+use crate::lex::lex;
 use crate::side::Side;
 use crate::spell::{spell, spelled_again, spelled_in_form};
-use crate::token::{Keyword, Sign, TokenKind};
-use actx_data::{NoMemory, Twin};
-use std::alloc::Global;
+use crate::token::{Sign, Token, TokenKind};
+use actx_data::Twin;
+use std::alloc::{AllocError, Global};
+use std::process::Abort;
 use std::test::Fail;
 
-/// The token of a word: a sign, one digit, `const`, or a name.
-fn token_of(alloc: Global, word: &str) -> Result<TokenKind, NoMemory> {
-    let chars: Vec<char> = word.chars().collect(alloc)?;
-    if word == "const" {
-        return Ok(TokenKind::Keyword(Keyword::Const));
+mod programs;
+
+/// What a text that spells no program is told as.
+const REFUSED: &str = "refused";
+
+/// The kinds of tokens.
+fn kinds(alloc: Global, tokens: Vec<Token>) -> Result<Vec<TokenKind>, AllocError> {
+    let mut kinds = Vec::new(alloc);
+    for token in tokens {
+        kinds.push(token.kind)?;
     }
-    match chars.first().copied() {
-        Some('(') => Ok(TokenKind::Sign(Sign::OpenParen)),
-        Some(')') => Ok(TokenKind::Sign(Sign::CloseParen)),
-        Some('.') => Ok(TokenKind::Sign(Sign::Dot)),
-        Some(',') => Ok(TokenKind::Sign(Sign::Comma)),
-        Some(';') => Ok(TokenKind::Sign(Sign::Semicolon)),
-        Some('=') => Ok(TokenKind::Sign(Sign::Assign)),
-        Some('+') => Ok(TokenKind::Sign(Sign::Plus)),
-        Some('-') => Ok(TokenKind::Sign(Sign::Minus)),
-        Some('*') => Ok(TokenKind::Sign(Sign::Star)),
-        Some('1') => Ok(TokenKind::Number(1)),
-        Some('2') => Ok(TokenKind::Number(2)),
-        _ => Ok(TokenKind::Name(Name::from_vec(chars))),
-    }
+    Ok(kinds)
 }
 
-fn tokens_of(alloc: Global, text: &str) -> Result<Vec<TokenKind>, NoMemory> {
-    let mut tokens = Vec::new(alloc);
-    for word in text.split_whitespace() {
-        tokens.push(token_of(alloc, word)?)?;
-    }
-    Ok(tokens)
+/// Whether the text spells a program.
+fn is_taken(alloc: Global, side: Side, text: &str) -> Result<bool, Fail> {
+    let tokens = lex(alloc, text.as_bytes())?;
+    Ok(run(alloc, side, &tokens)?.is_some())
 }
 
-fn sign_word(sign: Sign) -> &'static str {
-    match sign {
-        Sign::OpenParen => "(",
-        Sign::CloseParen => ")",
-        Sign::Dot => ".",
-        Sign::Comma => ",",
-        Sign::Semicolon => ";",
-        Sign::Assign => "=",
-        Sign::Plus => "+",
-        Sign::Minus => "-",
-        Sign::Star => "*",
-        _ => "?",
-    }
-}
-
-fn put_token(text: &mut String, token: &TokenKind) -> Result<(), NoMemory> {
-    match token {
-        TokenKind::Name(name) => {
-            for c in name.as_slice() {
-                text.push(*c)?;
-            }
+/// The printed text of the program that the text spells.
+fn again(alloc: Global, side: Side, text: &str) -> Result<String, Fail> {
+    let tokens = lex(alloc, text.as_bytes())?;
+    match run(alloc, side, &tokens)? {
+        Some(program) => {
+            let printed = emit(alloc, &spell(alloc, &program.copy(alloc)?)?)?;
+            Ok(String::from_utf8_lossy(alloc, &printed)?)
         }
-        TokenKind::Keyword(_) => text.push_str("const")?,
-        TokenKind::Number(n) => text.push_str(if *n == 1 { "1" } else { "2" })?,
-        TokenKind::Text(_) => text.push_str("text")?,
-        TokenKind::Sign(sign) => text.push_str(sign_word(*sign))?,
+        None => Ok(String::from_str(alloc, REFUSED)?),
     }
-    Ok(())
 }
 
-fn text_of(alloc: Global, tokens: &[TokenKind]) -> Result<String, NoMemory> {
-    let mut text = String::new(alloc);
-    for (i, token) in tokens.iter().enumerate() {
-        if i != 0 {
-            text.push(' ')?;
-        }
-        put_token(&mut text, token)?;
+/// The text with its tokens printed.
+fn printed(alloc: Global, text: &str) -> Result<String, Fail> {
+    if text == REFUSED {
+        return Ok(String::from_str(alloc, REFUSED)?);
     }
+    let tokens = kinds(alloc, lex(alloc, text.as_bytes())?)?;
+    let printed = emit(alloc, &tokens)?;
+    Ok(String::from_utf8_lossy(alloc, &printed)?)
+}
+
+/// A text with some of its words many times.
+fn repeated(
+    alloc: Global,
+    before: &str,
+    many: &str,
+    between: &str,
+    more: &str,
+    after: &str,
+    count: usize,
+) -> Result<String, AllocError> {
+    let mut text = String::from_str(alloc, before)?;
+    for _ in 0..count {
+        text.push(' ')?;
+        text.push_str(many)?;
+    }
+    text.push(' ')?;
+    text.push_str(between)?;
+    for _ in 0..count {
+        text.push(' ')?;
+        text.push_str(more)?;
+    }
+    text.push_str(after)?;
     Ok(text)
 }
 
-/// The text of the program that the text spells, or `refused`.
-fn again(alloc: Global, side: Side, text: &str) -> Result<String, NoMemory> {
-    let tokens = tokens_of(alloc, text)?;
-    match run(alloc, side, tokens.as_slice())? {
-        Some(program) => text_of(alloc, spell(alloc, &program.copy(alloc)?)?.as_slice()),
-        None => Ok(String::from_str(alloc, "refused")?),
-    }
-}
-
-/// `const a = ( ( 1 ) ) ;` with so many pairs of parentheses.
-fn nested(alloc: Global, pairs: usize) -> Result<Vec<TokenKind>, NoMemory> {
-    let mut tokens = tokens_of(alloc, "const a =")?;
-    for _ in 0..pairs {
-        tokens.push(TokenKind::Sign(Sign::OpenParen))?;
-    }
-    tokens.push(TokenKind::Number(1))?;
-    for _ in 0..pairs {
-        tokens.push(TokenKind::Sign(Sign::CloseParen))?;
-    }
-    tokens.push(TokenKind::Sign(Sign::Semicolon))?;
-    Ok(tokens)
-}
-
-#[test]
-fn programs(rt: HostRuntime) -> Result<(), Fail> {
-    let alloc = rt.alloc();
-    for (text, wanted) in [
-        ("", ""),
-        ("const a = 1 , b = a ;", "const a = 1 , b = a ;"),
-        ("const a = 1 , ;", "refused"),
-        ("const ;", "refused"),
-        ("const a = 1", "refused"),
-        ("1 ;", "1 ;"),
-        (";", "refused"),
-        ("1 ; 2 ; a ;", "1 ; 2 ; a ;"),
-        ("console . log ( ) ;", "console . log ( ) ;"),
-        ("console . log ( , ) ;", "refused"),
-        ("console . log ( 1 , a , ) ;", "console . log ( 1 , a ) ;"),
-        ("console . log ( 1 , , ) ;", "refused"),
-        ("console . log ( 1 ;", "refused"),
-        ("console . log ;", "refused"),
-        ("console . log ( 1 ) + 2 ;", "console . log ( 1 ) + 2 ;"),
-        ("a - 1 - 2 ;", "a - 1 - 2 ;"),
-        ("( a - 1 ) - 2 ;", "a - 1 - 2 ;"),
-        ("a - ( 1 - 2 ) ;", "a - ( 1 - 2 ) ;"),
-        ("a * ( 1 + 2 ) ;", "a * ( 1 + 2 ) ;"),
-        ("( a * 1 ) + ( ( 2 ) ) ;", "a * 1 + 2 ;"),
-        ("1 + * 2 ;", "refused"),
-        ("( 1 ;", "refused"),
-        ("1 ) ;", "refused"),
-        ("1 2 ;", "refused"),
-        ("const console = 1 ;", "refused"),
-        ("const const = 1 ;", "refused"),
-        ("const undefined = 1 ;", "const undefined = 1 ;"),
-        ("undefined ;", "refused"),
-        ("console ;", "refused"),
-        ("Promise ;", "refused"),
-    ] {
+/// Compares what is spelled again; an empty wish is the text itself.
+fn compare(rt: &impl Abort, alloc: Global, side: Side, table: &[(&str, &str)]) -> Result<(), Fail> {
+    for (text, wanted) in table {
+        let wanted = if wanted.is_empty() { *text } else { *wanted };
+        let wanted = printed(alloc, wanted)?;
         assert_eq!(rt;
-            again(alloc, Side::Source, text)?.as_str(),
-            wanted,
+            again(alloc, side, text)?.as_str(),
+            wanted.as_str(),
             "at {text}"
         );
     }
-    assert_eq!(rt;
-        again(alloc, Side::Plain, "Promise + __actx ;")?.as_str(),
-        "refused"
-    );
-    assert_eq!(rt;
-        again(alloc, Side::Plain, "Promise ;")?.as_str(),
-        "Promise ;"
-    );
     Ok(())
 }
 
 #[test]
-fn limits(rt: HostRuntime) -> Result<(), Fail> {
-    let alloc = rt.alloc();
-    let eight = "console . log ( 1 , 2 , 1 , 2 , 1 , 2 , 1 , 2 , ) ;";
-    let nine = "console . log ( 1 , 2 , 1 , 2 , 1 , 2 , 1 , 2 , 1 ) ;";
-    assert!(rt; again(alloc, Side::Source, eight)?.as_str() != "refused");
-    assert!(rt; again(alloc, Side::Source, nine)?.as_str() == "refused");
-    assert!(rt; again(alloc, Side::Plain, nine)?.as_str() != "refused");
-    for (side, pairs, taken) in [
-        (Side::Source, 198, true),
-        (Side::Source, 199, false),
-        (Side::Plain, 32_766, true),
-        (Side::Plain, 32_767, false),
+fn limits_of_counts(rt: HostRuntime) -> Result<(), Fail> {
+    for (text, taken) in [
+        ("console . log ( 1 , 2 , 1 , 2 , 1 , 2 , 1 , 2 , ) ;", true),
+        (
+            "console . log ( 1 , 2 , 1 , 2 , 1 , 2 , 1 , 2 , 1 ) ;",
+            false,
+        ),
+        ("f ( 1 , 2 , 1 , 2 , 1 , 2 , 1 , 2 ) ;", true),
+        ("f ( 1 , 2 , 1 , 2 , 1 , 2 , 1 , 2 , 1 ) ;", false),
+        ("( a , b , c , d , e , f , g , h , ) => 1 ;", true),
+        ("( a , b , c , d , e , f , g , h , i ) => 1 ;", false),
+        (
+            "const z = function ( a , b , c , d , e , f , g , h ) { } ;",
+            true,
+        ),
+        (
+            "const z = function ( a , b , c , d , e , f , g , h , i ) { } ;",
+            false,
+        ),
+        (
+            "const z = { a , b , c , d , e , f , g , h , i , j } ;",
+            true,
+        ),
     ] {
-        let tokens = nested(alloc, pairs)?;
         assert_eq!(rt;
-            run(alloc, side, tokens.as_slice())?.is_some(),
+            is_taken(rt.alloc(), Side::Source, text)?,
+            taken,
+            "at {text}"
+        );
+        assert!(rt; is_taken(rt.alloc(), Side::Plain, text)?, "at {text}");
+    }
+    Ok(())
+}
+
+/// Each row nests words about others: what is before, what is nested, the middle, what closes it, what is after, and
+/// how many nests there may be.
+#[test]
+fn limits_of_depth(rt: HostRuntime) -> Result<(), Fail> {
+    for (before, many, between, more, after, good) in [
+        ("const a =", "(", "1", ")", ";", 198),
+        ("", "f (", "1", ")", ";", 198),
+        ("", "{", "", "}", "", 200),
+        ("", "{", "1 ;", "}", "", 198),
+        ("", "if ( a ) {", "", "}", "", 100),
+        ("", "", "a", ". b", ";", 198),
+        ("", "", "a", "( )", ";", 198),
+        ("", "", "1", "+ 1", ";", 198),
+        ("const o =", "{ a :", "1", "}", ";", 198),
+        ("const o =", "{ a :", "{ b }", "}", ";", 197),
+        ("", "( ) => {", "", "} ;", "", 100),
+        ("return", "x =>", "1", "", ";", 99),
+        ("try {", "try {", "", "} finally { }", "} finally { }", 199),
+        ("try { } finally {", "try { } finally {", "", "}", "}", 199),
+        ("const a =", "a . b =", "1", "", ";", 198),
+    ] {
+        let text = repeated(rt.alloc(), before, many, between, more, after, good)?;
+        assert!(rt;
+            is_taken(rt.alloc(), Side::Source, text.as_str())?,
+            "{good} of {many}"
+        );
+        let past = good.saturating_add(1);
+        let text = repeated(rt.alloc(), before, many, between, more, after, past)?;
+        assert!(rt;
+            !is_taken(rt.alloc(), Side::Source, text.as_str())?,
+            "{past} of {many}"
+        );
+    }
+    Ok(())
+}
+
+/// Parentheses make no tree, so that a text of the greatest depth is dropped at once.
+#[test]
+fn limits_of_depth_of_the_plain_side(rt: HostRuntime) -> Result<(), Fail> {
+    for (pairs, taken) in [(32_766, true), (32_767, false)] {
+        let text = repeated(rt.alloc(), "const a =", "(", "1", ")", ";", pairs)?;
+        assert_eq!(rt;
+            is_taken(rt.alloc(), Side::Plain, text.as_str())?,
             taken,
             "at {pairs}"
         );
@@ -183,7 +181,15 @@ fn limits(rt: HostRuntime) -> Result<(), Fail> {
 #[test]
 fn public_calls(rt: HostRuntime) -> Result<(), Fail> {
     let alloc = rt.alloc();
-    let tokens = [TokenKind::Number(1), TokenKind::Sign(Sign::Semicolon)];
+    let one = Token {
+        kind: TokenKind::Number(1),
+        line_before: false,
+    };
+    let end = Token {
+        kind: TokenKind::Sign(Sign::Semicolon),
+        line_before: false,
+    };
+    let tokens = [one, end];
     assert!(rt; parse_source(alloc, tokens.as_slice()).is_ok());
     assert!(rt; parse_plain(alloc, tokens.as_slice()).is_ok());
     one_tree();

@@ -1,9 +1,9 @@
 //! Names that the grammar knows, as `console`.
 
 ghost use Rattle.std.specs.Prelude.{◌≡◌};
+ghost use Rattle.actx_parse.specs.Parser.{is_binding, is_one_of, is_undefined};
 ghost use Rattle.actx_parse.specs.Grammar.{built_in};
 ghost use Rattle.actx_parse.specs.Lexical.{same_text};
-ghost use Rattle.actx_parse.specs.Parser.{is_binding, is_one_of, is_reference};
 
 use crate::name::Name;
 use crate::side::Side;
@@ -62,9 +62,9 @@ pub fn is_binding(side: Side, name: &Name) -> bool
     !is_built_in(side, name)
 }
 
-/// Whether the name may stand where an expression does.
-pub fn is_reference(side: Side, name: &Name) -> bool
-    ensures { result ≡ is_reference side name.now }
+/// Whether the name is of the value `undefined`.
+pub fn is_undefined(name: &Name) -> bool
+    ensures { result ≡ is_undefined name.now }
 {
-    !is_word(name, b"undefined") && is_binding(side, name)
+    is_word(name, b"undefined")
 }

@@ -1,41 +1,93 @@
-//! The rows of expressions: what is evaluated, and what an operation makes of its children's values.
+//! The rows of expressions: what each kind of expression evaluates first.
 
-ghost use Rattle.std.specs.Prelude.{◌≡◌, [], IfOk, OnOk, reverse};
+ghost use Rattle.std.specs.Prelude.{◌≡◌, IfOk, OnOk, Some, None, option_map, if◌then◌else◌, ◌&&◌};
 ghost use Rattle.actx_data.specs.declared.end.End.TheVariants.{Going, Left};
 ghost use Rattle.actx_parse.specs.declared.side.Side.TheVariants.{Plain};
-ghost use Rattle.actx_parse.specs.View.{expr_view};
-ghost use Rattle.actx_top.specs.Machine.{takes, throws, Stops, answered, eval_number, find, read_cell, log, form_rule, operator_rule, rule, eval_parts, eval};
-ghost use Rattle.actx_top.specs.MachineView.{state_of, frames_in, store_in, op_of, parts_of};
-ghost use Rattle.actx_top.specs.Scope.{reading_of, found_value};
-ghost use Rattle.actx_top.specs.View.{answer_view};
+ghost use Rattle.actx_parse.specs.Grammar.{count};
+ghost use Rattle.actx_parse.specs.Parser.{suits};
+ghost use Rattle.actx_parse.specs.View.{expr_view, exprs_view, function_view};
+ghost use Rattle.actx_top.specs.Cells.{found_cell};
+ghost use Rattle.actx_top.specs.Chains.{chain_of};
+ghost use Rattle.actx_top.specs.State.{Stops, Goes, Given, find, cell_of, cells_at};
+ghost use Rattle.actx_top.specs.Machine.{takes, throws, answered, makes, eval_number, read_cell, kept_receiver, eval_call, eval_form, has_form, eval};
+ghost use Rattle.actx_top.specs.MachineView.{state_of, frames_in, store_in, form_of};
+ghost use Rattle.actx_top.specs.ThingView.{thing_of};
+ghost use Rattle.actx_top.specs.View.{reading_of, answer_view};
 
-use super::{Completion, Frame, Op, Parts, Target, Task, Thing};
-use crate::line;
-use crate::operators::{Answer, binary};
+use super::{Completion, Frame, Op, Parts, PlainForm, Target, Task};
+use crate::chain::{Chain, again};
+use crate::operators::Answer;
 use crate::scope::{Reading, Scope};
 use crate::sound::Sound;
-use actx_data::{End, ErrorName, NoMemory, TraceEvent, Twin, Units};
+use crate::thing::Thing;
+use actx_data::{End, ErrorName, NoMemory, Twin, Units};
 use actx_parse::name::Name;
-use actx_parse::tree::{BinaryOp, Expr, Form};
+use actx_parse::tree::{Expr, Form, Function, FunctionKind};
 use std::alloc::Global;
 
 /// The greatest number of the profile.
 const GREATEST: u64 = 9_007_199_254_740_991;
 
+/// What a name is in the scope with this number.
+fn read_in(alloc: Global, scopes: &[Scope], number: usize, name: &Name) -> Result<Reading, NoMemory>
+    ensures { IfOk result (λ reading. reading_of reading ≡ found_cell (cell_of name.now (cells_at scopes.now number))) }
+{
+    match scopes.get(number) {
+        None => Ok(Reading::Unbound),
+        Some(scope) => scope.read(alloc, name),
+    }
+}
+
 /// What a name is in the open scopes, the innermost first.
-fn find(alloc: Global, scopes: &[Scope], open: &[usize], name: &Name) -> Result<Reading, NoMemory>
-    ensures { IfOk result (λ reading. reading_of reading ≡ found_value (find scopes.now «open».now name.now)) }
+fn find(alloc: Global, scopes: &[Scope], open: &Chain, name: &Name) -> Result<Reading, NoMemory>
+    ensures { IfOk result (λ reading. reading_of reading ≡ found_cell (find scopes.now (chain_of «open».now) name.now)) }
 {
     match open {
-        [] => Ok(Reading::Unbound),
-        [inner, outer @ ..] => match scopes.get(*inner) {
-            None => find(alloc, scopes, outer, name),
-            Some(scope) => match scope.read(alloc, name)? {
-                Reading::Unbound => find(alloc, scopes, outer, name),
+        Chain::Outermost => Ok(Reading::Unbound),
+        Chain::Inside(link) => {
+            let here = &**link;
+            match read_in(alloc, scopes, here.number, name)? {
+                Reading::Unbound => find(alloc, scopes, &here.outer, name),
                 Reading::Unset => Ok(Reading::Unset),
                 Reading::Value(value) => Ok(Reading::Value(value)),
-            },
-        },
+            }
+        }
+    }
+}
+
+/// The receiver that a function keeps: an arrow that of the code round it.
+fn kept_receiver(alloc: Global, kind: FunctionKind, receiver: &Sound) -> Result<Sound, NoMemory>
+    ensures { IfOk result (λ kept. kept ≡ kept_receiver kind receiver.now) }
+{
+    match kind {
+        FunctionKind::Arrow => receiver.copy(alloc),
+        FunctionKind::Normal => Ok(Sound::undefined()),
+    }
+}
+
+/// How many parts there are.
+#[tactic(auto, using(crate::proofs::Forms::count_is))]
+fn count(parts: &[Expr]) -> usize
+    ensures { result ≡ count (exprs_view parts.now) }
+{
+    parts.len()
+}
+
+/// A form of a plain program, where it takes so many parts.
+fn plain_form(form: Form, count: usize) -> Option<PlainForm>
+    ensures { option_map form_of result ≡ (if has_form Plain form && suits form count then Some form else None) }
+{
+    match form {
+        Form::Log => Some(PlainForm::Log),
+        Form::NewVariable => None,
+        Form::NewWeakMap if count == 0 => Some(PlainForm::NewWeakMap),
+        Form::NewWeakMap => None,
+        Form::Freeze if count == 1 => Some(PlainForm::Freeze),
+        Form::Freeze => None,
+        Form::CallWith if count >= 1 => Some(PlainForm::CallWith),
+        Form::CallWith => None,
+        Form::Note if count == 4 => Some(PlainForm::Note),
+        Form::Note => None,
     }
 }
 
@@ -45,6 +97,17 @@ impl<'a> Target<'a> {
         ensures { state_of self.new ≡ takes (Stops Left) self.old.trace.items }
     {
         self.end = End::Left;
+    }
+
+    /// A new thing is the value.
+    pub fn makes(&mut self, thing: Thing<'a>) -> Result<(), NoMemory>
+        requires { self.old.end ≡ End.Going }
+        ensures { OnOk result (state_of self.new ≡ takes (makes (thing_of thing.entry) (frames_in self.old) (store_in self.old)) self.old.trace.items) }
+    {
+        let number = self.heap.len() as u64;
+        self.heap.push(thing)?;
+        self.task = Task::Given(Sound::thing(number));
+        Ok(())
     }
 
     /// A new error is thrown, with the empty message.
@@ -57,6 +120,24 @@ impl<'a> Target<'a> {
         self.heap.push(Thing::Failure(name, message))?;
         self.task = Task::Done(Completion::Throw(Sound::thing(number)));
         Ok(())
+    }
+
+    /// What an operation answered.
+    pub fn answered(&mut self, answer: Answer) -> Result<(), NoMemory>
+        requires { self.old.end ≡ End.Going }
+        ensures { OnOk result (state_of self.new ≡ takes (answered (answer_view answer) (frames_in self.old) (store_in self.old)) self.old.trace.items) }
+    {
+        match answer {
+            Answer::Gives(value) => {
+                self.task = Task::Given(value);
+                Ok(())
+            }
+            Answer::Throws(name) => self.throws(name),
+            Answer::Leaves => {
+                self.leaves();
+                Ok(())
+            }
+        }
     }
 
     /// A number literal; past the greatest number it is outside the profile.
@@ -89,78 +170,52 @@ impl<'a> Target<'a> {
         }
     }
 
-    /// `console.log` with the values of its arguments.
-    fn log(&mut self, values: &[Sound]) -> Result<(), NoMemory>
+    /// A function keeps the open scopes, and an arrow the receiver.
+    fn eval_function(&mut self, function: &'a Function) -> Result<(), NoMemory>
         requires { self.old.end ≡ End.Going }
-        ensures { OnOk result (state_of self.new ≡ takes (log values.now (frames_in self.old) (store_in self.old)) self.old.trace.items) }
+        ensures { OnOk result (state_of self.new ≡ takes (eval Plain (function_view function.now) (frames_in self.old) (store_in self.old)) self.old.trace.items) }
     {
-        match line::line_of(self.alloc, values)? {
-            Some(text) => {
-                self.trace.push(TraceEvent::Out(text))?;
-                self.task = Task::Given(Sound::undefined());
-            }
-            None => self.leaves(),
+        let kept = kept_receiver(self.alloc, function.kind, &self.receiver)?;
+        let scope = again(&self.scope)?;
+        self.makes(Thing::Closure(function, scope, kept))
+    }
+
+    /// A call: of a property it has the base first, and then reads the property.
+    fn eval_call(&mut self, callee: &'a Expr, args: &'a [Expr]) -> Result<(), NoMemory>
+        requires { self.old.end ≡ End.Going }
+        ensures { OnOk result (state_of self.new ≡ takes (eval_call Plain (expr_view callee.now) (exprs_view args.now) (frames_in self.old) (store_in self.old)) self.old.trace.items) }
+    {
+        if let Expr::Member(base, key) = callee {
+            self.frames.push(Frame::Base(key, args))?;
+            self.task = Task::Eval(base);
+            return Ok(());
         }
+        let op = Op::CallOf(Sound::undefined());
+        self.begin_parts(op, Parts::Callee(callee, args))
+    }
+
+    /// A form that a plain program doesn't have, or with a number of parts that it doesn't take, is outside the profile.
+    fn eval_form(&mut self, form: Form, parts: &'a [Expr]) -> Result<(), NoMemory>
+        requires { self.old.end ≡ End.Going }
+        ensures { OnOk result (state_of self.new ≡ takes (eval_form Plain form (exprs_view parts.now) (frames_in self.old) (store_in self.old)) self.old.trace.items) }
+    {
+        match plain_form(form, count(parts)) {
+            Some(form) => self.begin_parts(Op::BuiltIn(form), Parts::List(parts)),
+            None => {
+                self.leaves();
+                Ok(())
+            }
+        }
+    }
+
+    /// The value of `this`.
+    fn eval_this(&mut self) -> Result<(), NoMemory>
+        requires { self.old.end ≡ End.Going }
+        ensures { OnOk result (state_of self.new ≡ takes (Goes (Given (store_in self.old).receiver) (frames_in self.old) (store_in self.old)) self.old.trace.items) }
+    {
+        let value = self.receiver.copy(self.alloc)?;
+        self.task = Task::Given(value);
         Ok(())
-    }
-
-    /// An operator with the values of its operands.
-    fn operator_rule(&mut self, op: BinaryOp, values: &[Sound]) -> Result<(), NoMemory>
-        requires { self.old.end ≡ End.Going }
-        ensures { OnOk result (state_of self.new ≡ takes (operator_rule op values.now (frames_in self.old) (store_in self.old)) self.old.trace.items) }
-    {
-        match values {
-            [a, b] => match binary(self.alloc, op, a, b)? {
-                Answer::Gives(value) => self.task = Task::Given(value),
-                Answer::Leaves => self.leaves(),
-            },
-            _ => self.leaves(),
-        }
-        Ok(())
-    }
-
-    /// An operation with all values there.
-    fn rule(&mut self, op: Op, values: &[Sound]) -> Result<(), NoMemory>
-        requires { self.old.end ≡ End.Going }
-        ensures { OnOk result (state_of self.new ≡ takes (rule Plain (op_of op) values.now (frames_in self.old) (store_in self.old)) self.old.trace.items) }
-    {
-        match op {
-            Op::Operator(op) => self.operator_rule(op, values),
-            Op::BuiltIn(Form::Log) => self.log(values),
-        }
-    }
-
-    /// The next child that is missing, or the rule where there is none.
-    pub fn eval_parts(
-        &mut self,
-        op: Op,
-        values: Vec<Sound>,
-        rest: Parts<'a>,
-    ) -> Result<(), NoMemory>
-        requires { self.old.end ≡ End.Going }
-        ensures { OnOk result (state_of self.new ≡ takes (eval_parts Plain (op_of op) values.items (parts_of rest.entry) (frames_in self.old) (store_in self.old)) self.old.trace.items) }
-    {
-        match rest {
-            Parts::Both(left, right) => {
-                self.frames
-                    .push(Frame::Pending(op, values, Parts::Right(right)))?;
-                self.task = Task::Eval(left);
-                Ok(())
-            }
-            Parts::Right(right) => {
-                self.frames
-                    .push(Frame::Pending(op, values, Parts::List(&[])))?;
-                self.task = Task::Eval(right);
-                Ok(())
-            }
-            Parts::List([]) => self.rule(op, &values),
-            Parts::List([first, rest @ ..]) => {
-                self.frames
-                    .push(Frame::Pending(op, values, Parts::List(rest)))?;
-                self.task = Task::Eval(first);
-                Ok(())
-            }
-        }
     }
 
     /// An expression is evaluated.
@@ -177,17 +232,25 @@ impl<'a> Target<'a> {
                 self.task = Task::Given(Sound::text(units.copy(self.alloc)?));
                 Ok(())
             }
+            Expr::Undefined => {
+                self.task = Task::Given(Sound::undefined());
+                Ok(())
+            }
+            Expr::This => self.eval_this(),
             Expr::Named(name) => self.eval_name(name),
             Expr::Binary(op, left, right) => {
-                self.eval_parts(
-                    Op::Operator(*op),
-                    Vec::new(self.alloc),
-                    Parts::Both(left, right),
-                )
+                self.begin_parts(Op::Operator(*op), Parts::Both(left, right))
             }
-            Expr::Form(form, parts) => {
-                self.eval_parts(Op::BuiltIn(*form), Vec::new(self.alloc), Parts::List(parts))
+            Expr::Member(base, key) => self.begin_parts(Op::GetKey(key), Parts::Right(base)),
+            Expr::SetMember(base, key, value) => {
+                self.begin_parts(Op::SetKey(key), Parts::Both(base, value))
             }
+            Expr::Call(callee, args) => self.eval_call(callee, args),
+            Expr::Object(properties) => {
+                self.begin_parts(Op::MakeObject(properties), Parts::Values(properties))
+            }
+            Expr::Function(function) => self.eval_function(function),
+            Expr::Form(form, parts) => self.eval_form(*form, parts),
         }
     }
 }

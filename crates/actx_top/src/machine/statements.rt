@@ -1,18 +1,23 @@
-//! The rows of statements: lists with their scopes, constants, and statements that drop a value.
+//! The rows of statements: lists with their scopes, constants, and what each kind of statement does first.
 
-ghost use Rattle.std.specs.Prelude.{◌≡◌, [], IfOk, OnOk, reverse};
+ghost use Rattle.std.specs.Prelude.{◌≡◌, [], IfOk, OnOk};
 ghost use Rattle.actx_data.specs.declared.end.End.TheVariants.{Going, Left};
 ghost use Rattle.actx_parse.specs.Tree.{next, end};
-ghost use Rattle.actx_parse.specs.View.{stmt_view, stmts_view, items_view};
-ghost use Rattle.actx_top.specs.Machine.{takes, begin_item, exec, exec_list, next_statement, set_in, with_items, with_names};
+ghost use Rattle.std.specs.Prelude.{option_map, slice_set};
+ghost use Rattle.std.specs.Option.{option_copied};
+ghost use Rattle.actx_parse.specs.View.{expr_view, stmt_view, stmts_view, items_view, returned};
+ghost use Rattle.actx_top.specs.Chains.{chain_of};
+ghost use Rattle.actx_top.specs.State.{set_in, set_cell, cells_at, with_items, with_names};
+ghost use Rattle.actx_top.specs.Machine.{takes, begin_item, exec, exec_list, exec_body, next_statement};
 ghost use Rattle.actx_top.specs.MachineView.{state_of, frames_in, store_in};
 
 use super::{Completion, Frame, Target, Task};
+use crate::chain::{Chain, again, inside};
 use crate::scope::Scope;
 use crate::sound::Sound;
 use actx_data::{End, NoMemory};
 use actx_parse::name::Name;
-use actx_parse::tree::{ConstItem, Stmt};
+use actx_parse::tree::{ConstItem, Expr, Stmt};
 use std::alloc::Global;
 use std::mem;
 
@@ -33,36 +38,55 @@ fn declare_statement(alloc: Global, scope: &mut Scope, statement: &Stmt) -> Resu
     match statement {
         Stmt::Const(items) => declare_items(alloc, scope, items),
         Stmt::Value(_) => Ok(()),
+        Stmt::Return(_) => Ok(()),
+        Stmt::Block(_) => Ok(()),
+        Stmt::If { test: _, yes: _ } => Ok(()),
+        Stmt::Try { block: _, last: _ } => Ok(()),
     }
 }
 
-/// A scope with the names of a list of statements.
-fn scope_of(alloc: Global, list: &[Stmt]) -> Result<Scope, NoMemory>
-    ensures { IfOk result (λ scope. scope ≡ with_names (stmts_view list.now) []) }
+/// Declares the names of a list of statements.
+pub fn declare_list(alloc: Global, scope: &mut Scope, list: &[Stmt]) -> Result<(), NoMemory>
+    ensures { OnOk result (scope.new ≡ with_names (stmts_view list.now) scope.old) }
 {
-    let mut scope = Scope::new(alloc);
     for statement in list {
-        declare_statement(alloc, &mut scope, statement)?;
+        declare_statement(alloc, scope, statement)?;
     }
-    Ok(scope)
+    Ok(())
+}
+
+/// Gives the name its value in the scope with this number.
+fn set_at(
+    alloc: Global,
+    scopes: &mut Vec<Scope>,
+    number: usize,
+    name: &Name,
+    value: Sound,
+) -> Result<(), NoMemory>
+    ensures { OnOk result (scopes.new.items ≡ slice_set scopes.old.items number (set_cell name.now value (cells_at scopes.old.items number))) }
+{
+    match scopes.get_mut(number) {
+        None => Ok(()),
+        Some(scope) => scope.set(alloc, name, value),
+    }
 }
 
 /// Gives the name its value in the innermost scope.
 pub fn set_in(
     alloc: Global,
     scopes: &mut Vec<Scope>,
-    open: &[usize],
+    open: &Chain,
     name: &Name,
     value: Sound,
 ) -> Result<(), NoMemory>
-    ensures { OnOk result (scopes.new.items ≡ set_in scopes.old.items «open».now name.now value) }
+    ensures { OnOk result (scopes.new.items ≡ set_in scopes.old.items (chain_of «open».now) name.now value) }
 {
     match open {
-        [] => Ok(()),
-        [inner, ..] => match scopes.get_mut(*inner) {
-            None => Ok(()),
-            Some(scope) => scope.set(alloc, name, value),
-        },
+        Chain::Outermost => Ok(()),
+        Chain::Inside(link) => {
+            let here = &**link;
+            set_at(alloc, scopes, here.number, name, value)
+        }
     }
 }
 
@@ -82,6 +106,21 @@ impl<'a> Target<'a> {
         Ok(())
     }
 
+    /// A return, of `undefined` where it has no expression.
+    fn exec_return(&mut self, value: Option<&'a Expr>) -> Result<(), NoMemory>
+        requires { self.old.end ≡ End.Going }
+        ensures { OnOk result (state_of self.new ≡ takes (exec (returned (option_map expr_view (option_copied value.entry))) (frames_in self.old) (store_in self.old)) self.old.trace.items) }
+    {
+        match value {
+            None => self.task = Task::Done(Completion::Return(Sound::undefined())),
+            Some(e) => {
+                self.frames.push(Frame::Return)?;
+                self.task = Task::Eval(e);
+            }
+        }
+        Ok(())
+    }
+
     /// A statement is executed.
     pub fn exec(&mut self, statement: &'a Stmt) -> Result<(), NoMemory>
         requires { self.old.end ≡ End.Going }
@@ -92,6 +131,19 @@ impl<'a> Target<'a> {
             Stmt::Value(e) => {
                 self.frames.push(Frame::Value)?;
                 self.task = Task::Eval(e);
+                Ok(())
+            }
+            Stmt::Return(value) => self.exec_return(value.as_ref()),
+            Stmt::Block(list) => self.exec_list(list),
+            Stmt::If { test, yes } => {
+                self.frames.push(Frame::If(yes))?;
+                self.task = Task::Eval(test);
+                Ok(())
+            }
+            Stmt::Try { block, last } => {
+                let back = again(&self.scope)?;
+                self.frames.push(Frame::Try(last, back))?;
+                self.task = Task::ExecList(block);
                 Ok(())
             }
         }
@@ -106,21 +158,37 @@ impl<'a> Target<'a> {
             self.task = Task::Done(Completion::Normal);
             return Ok(());
         };
-        let inner = self.scopes.len();
-        let mut open = Vec::with_capacity(self.alloc, self.scope.len().saturating_add(1))?;
-        open.push(inner)?;
-        open.extend_from_slice(&self.scope)?;
-        self.scopes.push(scope_of(self.alloc, list)?)?;
-        let back = mem::replace(&mut self.scope, open);
+        let mut cells = Scope::new(self.alloc);
+        declare_list(self.alloc, &mut cells, list)?;
+        let outer = again(&self.scope)?;
+        let inner = inside(self.alloc, self.scopes.len(), outer)?;
+        self.scopes.push(cells)?;
+        let back = mem::replace(&mut self.scope, inner);
         self.frames.push(Frame::List(rest, back))?;
         self.task = Task::Exec(first);
         Ok(())
     }
 
-    /// The next statement of a list, or its end, where the scopes round it come back.
-    pub fn next_statement(&mut self, list: &'a [Stmt], back: Vec<usize>) -> Result<(), NoMemory>
+    /// A function's body is executed, in the scope that its call has made.
+    pub fn exec_body(&mut self, list: &'a [Stmt]) -> Result<(), NoMemory>
         requires { self.old.end ≡ End.Going }
-        ensures { OnOk result (state_of self.new ≡ takes (next_statement (stmts_view list.now) back.items (frames_in self.old) (store_in self.old)) self.old.trace.items) }
+        ensures { OnOk result (state_of self.new ≡ takes (exec_body (stmts_view list.now) (frames_in self.old) (store_in self.old)) self.old.trace.items) }
+    {
+        match list {
+            [] => self.task = Task::Done(Completion::Normal),
+            [first, rest @ ..] => {
+                let back = again(&self.scope)?;
+                self.frames.push(Frame::List(rest, back))?;
+                self.task = Task::Exec(first);
+            }
+        }
+        Ok(())
+    }
+
+    /// The next statement of a list, or its end, where the scopes round it come back.
+    pub fn next_statement(&mut self, list: &'a [Stmt], back: Chain) -> Result<(), NoMemory>
+        requires { self.old.end ≡ End.Going }
+        ensures { OnOk result (state_of self.new ≡ takes (next_statement (stmts_view list.now) (chain_of back) (frames_in self.old) (store_in self.old)) self.old.trace.items) }
     {
         match list {
             [] => {

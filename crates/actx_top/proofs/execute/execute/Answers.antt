@@ -2,13 +2,12 @@ use Rattle.std.proofs.Common.{◌≡◌, ◌∙◌, ℕ, List, [], sym, subst, I
 use Rattle.actx_parse.specs.Accepts.{ReadsPlain}
 use Rattle.actx_parse.specs.Tree.{Stmts}
 use Rattle.actx_parse.specs.View.{program_view}
-use Rattle.actx_top.specs.Answers.{most_steps, IsThrow}
+use Rattle.actx_top.specs.Answers.{most_steps}
 use Rattle.actx_top.specs.Ending.{Ends}
 use Rattle.actx_top.specs.Headline.{emitted}
 use Rattle.actx_top.specs.Low.{low}
 use Rattle.actx_top.specs.Meaning.{target_shows}
 use Rattle.actx_top.proofs.Readable.{emitted_reads}
-use Rattle.actx_top.proofs.Throws.{never_throws}
 use Rattle.actx_top.proofs.execute.execute.Goals as goal
 
 -- the text that was made is the emitted one, which reads as the emitted program
@@ -19,12 +18,6 @@ pub read_back-requires : goal.read_back-requires
 read_back-requires c =
     let p = program_view c.args.program.now in
     (low p, made_reads c.deref.result.now p (c.deref.ensures.value ∙ c.in_ok-text.ensures) (emitted_reads c.requires.0 p c.requires.1))
-
-pub run_plain-requires : goal.run_plain-requires
-run_plain-requires c =
-    let p = program_view c.args.program.now in
-    let same : program_view c.in_ok-plain.plain ≡ low p = c.in_ok-plain.ensures (low p) (made_reads c.deref.result.now p (c.deref.ensures.value ∙ c.in_ok-text.ensures) (emitted_reads c.requires.0 p c.requires.1)) in
-    subst (λ q. IsThrow (target_shows q [] most_steps).end → ⊥) (sym same) (never_throws p c.requires.1.clean [] most_steps)
 
 pub returns : goal.returns
 returns c =

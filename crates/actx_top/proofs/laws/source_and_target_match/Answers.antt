@@ -1,4 +1,4 @@
-use Rattle.actx_top.proofs.Same.Theorem.{same}
+use Rattle.actx_top.proofs.Whole.{same}
 use Rattle.actx_top.proofs.laws.source_and_target_match.Goals as goal
 
 pub returns : goal.returns

@@ -1,14 +1,26 @@
-use Rattle.std.proofs.Common.{◌≡◌, ◌∙◌, ◌+◌, ◌++◌, ◌∷◌, [], ap, sym, take}
-use Rattle.std.proofs.lemmas.List.{take_more}
-use Rattle.actx_parse.specs.View.{exprs_view}
-use Rattle.actx_top.specs.Low.{all_renamed}
-use Rattle.actx_top.proofs.Lowered.{renamed_last}
+use Rattle.std.proofs.Common.{◌≡◌, ap, ◌∙◌, arith, take, map}
+use Rattle.std.proofs.lemmas.Grind.{common_steps}
+use Rattle.actx_parse.specs.View.{expr_view, exprs_of, item_view, items_of, property_view, properties_of, stmt_view, stmts_of}
+use Rattle.actx_top.specs.Low.{p_, renamed, stmt_renamed}
+use Rattle.actx_top.proofs.Lowered.{exprs_each, properties_each, items_each, statements_each}
 use Rattle.actx_top.proofs.lower.+renamed.Goals as goal
 
-pub all_renamed-loop-e-preserved : goal.all_renamed-loop-e-preserved
-all_renamed-loop-e-preserved t c =
-    let xs = c.deref-e-items.result.now in
-    let k = c.loop-e.e-index in
-    let x = c.e-item.result in
-    let grown : take (k + 1) xs ≡ take k xs ++ x ∷ [] = take_more xs k x c.loop-e-test.true ∙ ap (λ z. take k xs ++ z ∷ []) (sym c.e-item.is) in
-    ap exprs_view c.in_ok-push.ensures.items ∙ renamed_last (take k xs) c.loop-e.made.items x c.in_ok-renamed.field-0 c.loop-e.invariant c.in_ok-renamed.ensures ∙ ap (λ ys. all_renamed (exprs_view ys)) (sym grown)
+pub all_renamed-returns : goal.all_renamed-returns
+all_renamed-returns t c =
+    let full : take c.loop-e.e-index c.deref-e-items.result.now ≡ c.args.es.now.items = grind (arith, common_steps) in
+    ap exprs_of c.loop-e.invariant ∙ ap (λ xs. exprs_of (map (λ e. renamed (expr_view e)) xs)) full ∙ exprs_each c.args.es.now.items
+
+pub properties_renamed-returns : goal.properties_renamed-returns
+properties_renamed-returns t c =
+    let full : take c.loop-property.property-index c.deref-property-items.result.now ≡ c.args.properties.now.items = grind (arith, common_steps) in
+    ap properties_of c.loop-property.invariant ∙ ap (λ xs. properties_of (map (λ p. ((property_view p).0, renamed (property_view p).1)) xs)) full ∙ properties_each c.args.properties.now.items
+
+pub items_renamed-returns : goal.items_renamed-returns
+items_renamed-returns t c =
+    let full : take c.loop-item.item-index c.deref-item-items.result.now ≡ c.args.items.now.items = grind (arith, common_steps) in
+    ap items_of c.loop-item.invariant ∙ ap (λ xs. items_of (map (λ i. (p_ (item_view i).0, renamed (item_view i).1)) xs)) full ∙ items_each c.args.items.now.items
+
+pub program_renamed-returns : goal.program_renamed-returns
+program_renamed-returns t c =
+    let full : take c.loop-statement.statement-index c.deref-statement-items.result.now ≡ c.args.statements.now.items = grind (arith, common_steps) in
+    ap stmts_of c.loop-statement.invariant ∙ ap (λ xs. stmts_of (map (λ st. stmt_renamed (stmt_view st)) xs)) full ∙ statements_each c.args.statements.now.items

@@ -17,6 +17,9 @@ returns-in-Ok-clause-refused g c = λ bytes h three p a. c.run_text.ensures.refu
 pub returns-in-Ok-clause-ran : goal.returns-in-Ok-clause-ran
 returns-in-Ok-clause-ran g c = λ bytes h p a. c.run_text.ensures.ran p (read_whole_text _ c.deref.result.now bytes p refl (c.deref.ensures.value ∙ c.in-Ok.ensures.bytes bytes h) a)
 
+pub returns-in-Ok-clause-threw : goal.returns-in-Ok-clause-threw
+returns-in-Ok-clause-threw g c = λ bytes h p a. c.run_text.ensures.threw p (read_whole_text _ c.deref.result.now bytes p refl (c.deref.ensures.value ∙ c.in-Ok.ensures.bytes bytes h) a)
+
 pub returns-in-Ok-clause-refuses : goal.returns-in-Ok-clause-refuses
 returns-in-Ok-clause-refuses g c = λ bytes h none.
     ⊎_elim (λ three. inl three) (λ wants. inr (inr wants))

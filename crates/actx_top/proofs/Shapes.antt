@@ -1,0 +1,16 @@
+-- Lists of statements and expressions with one more at their end.
+use Rattle.std.proofs.Common.{◌≡◌, List, [], ◌∷◌, ◌++◌, refl, ap}
+use Rattle.actx_parse.specs.Tree as t
+use Rattle.actx_parse.specs.Grammar.{with_last}
+use Rattle.actx_parse.specs.Parser.{with_stmt}
+use Rattle.actx_parse.specs.View.{expr_view, exprs_view, stmt_view, stmts_view}
+use Rattle.actx_parse.specs.declared.tree.Expr.{Expr}
+use Rattle.actx_parse.specs.declared.tree.Stmt.{Stmt}
+
+pub statement_last : (xs : List Stmt) (x : Stmt) → stmts_view (xs ++ x ∷ []) ≡ with_stmt (stmts_view xs) (stmt_view x)
+statement_last [] x = refl
+statement_last (y ∷ ys) x = ap (t.next (stmt_view y)) (statement_last ys x)
+
+pub expression_last : (xs : List Expr) (x : Expr) → exprs_view (xs ++ x ∷ []) ≡ with_last (exprs_view xs) (expr_view x)
+expression_last [] x = refl
+expression_last (y ∷ ys) x = ap (t.also (expr_view y)) (expression_last ys x)

@@ -1,0 +1,17 @@
+-- The simulation by the laws of the prelude.
+use Rattle.std.proofs.Common.{List}
+use Rattle.actx_match.specs.Matching.{WithinFactor}
+use Rattle.actx_data.specs.declared.event.Event.{Event}
+use Rattle.actx_parse.specs.Static.{IsTaken}
+use Rattle.actx_parse.specs.Tree.{Stmts}
+use Rattle.actx_top.specs.Low.{low}
+use Rattle.actx_top.specs.Meaning.{Same, source_shows, target_shows}
+use Rattle.actx_top.specs.Weight.{source_cost}
+use Rattle.actx_top.proofs.PreludeLaws.Whole.{laws}
+use Rattle.actx_top.proofs.Same.Theorem as by_laws
+
+pub same : (p : Stmts) → IsTaken p → Same p (low p)
+same = by_laws.same laws
+
+pub work_bounded : (p : Stmts) → IsTaken p → (events : List Event) → WithinFactor 1024 (source_shows p events) (target_shows (low p) events) (source_cost p events) (λ m. m)
+work_bounded = by_laws.work_bounded laws
