@@ -1,6 +1,8 @@
 //! The top call and what it stands on: the step table, the emitted program and both runs.
 #![tactic(auto)]
 
+#[cfg(test)]
+mod cases;
 mod chain;
 mod entries;
 mod execute;

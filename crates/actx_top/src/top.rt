@@ -157,9 +157,9 @@ fn run_file<C: Cabinet, O: Sink, F: Sink>(
 /// `run` and a file whose name doesn't begin with `-`. The program of the file is lowered, printed, parsed again and
 /// run for at most 20,000,000 steps; what it prints goes to `out`, and a line that tells a fault to `faults`.
 ///
-/// 0: the run ended. 1: it threw, and the line shows the value. 2: the words are no command line. 3: the text is no program that is taken. 4: the run left the
-/// profile. 5: it was still going. 6: the file couldn't be read. 7: the output couldn't be written. 70: memory was
-/// wanting, which may come in place of any other answer.
+/// 0: the run ended. 1: it threw, and the line shows the value. 2: the words are no command line. 3: the text is no
+/// program that is taken. 4: the run left the profile. 5: it was still going. 6: the file couldn't be read. 7: the
+/// output couldn't be written. 70: memory was wanting, which may come in place of any other answer.
 pub fn actx<C: Cabinet, O: Sink, F: Sink>(
     alloc: Global,
     words: &[String],

@@ -1,10 +1,12 @@
 //! The top call over cabinets and sinks in memory.
 
 use super::actx;
+use crate::cases::{Case, cases};
 use actx_ports::{MemoryCabinet, MemorySink};
 use std::alloc::{AllocError, Global};
 use std::test::Fail;
 
+mod examples;
 mod language;
 
 /// What a call answered, and what it wrote.
@@ -59,106 +61,25 @@ fn ran(alloc: Global, text: &str, fails: Faults) -> Result<Answer, AllocError> {
     called(alloc, vec![in alloc; mode, file]?, text.as_bytes(), fails)
 }
 
-/// Programs with their status, their lines and the line on the fault.
-const RUNS: [(&str, u8, &str, &str); 26] = [
-    ("", 0, "", ""),
-    ("\n \n", 0, "", ""),
-    ("console.log(1 + 2 * 3);\n", 0, "7\n", ""),
-    (
-        "console.log(9007199254740991 + 1);",
-        4,
-        "",
-        "actx: left the profile\n",
-    ),
-    (
-        "const a = 2; const b = \"x\" + a * 3; console.log(b, a - 5);",
-        0,
-        "x6 -3\n",
-        "",
-    ),
-    ("console.log(\"a\" - 1);", 4, "", "actx: left the profile\n"),
-    ("console.log(\"%\", 1);", 4, "", "actx: left the profile\n"),
-    ("if (1) {}", 3, "", "actx: a.js:1:1: 13 NotYet\n"),
-    ("console.log(\"%\");", 0, "%\n", ""),
-    ("console.log();", 0, "\n", ""),
-    ("console.log(1, \"a\", 2,);", 0, "1 a 2\n", ""),
-    ("console.log(1,2,3,4,5,6,7,8);", 0, "1 2 3 4 5 6 7 8\n", ""),
-    (
-        "console.log(1,2,3,4,5,6,7,8,9);",
-        3,
-        "",
-        "actx: a.js:1:1: 13 NotYet\n",
-    ),
-    (
-        "console.log(0 - 9007199254740991);",
-        0,
-        "-9007199254740991\n",
-        "",
-    ),
-    (
-        "console.log(0 - 9007199254740991 - 1);",
-        4,
-        "",
-        "actx: left the profile\n",
-    ),
-    (
-        "console.log(3037000500 * 3037000500);",
-        4,
-        "",
-        "actx: left the profile\n",
-    ),
-    (
-        "console.log(1); console.log(1 * \"a\"); console.log(2);",
-        4,
-        "1\n",
-        "actx: left the profile\n",
-    ),
-    (
-        "const a = 1, b = a + 1; console.log(a - b - 1, a - (b - 1));",
-        0,
-        "-2 0\n",
-        "",
-    ),
-    (
-        "const a = 1; const a = 2;",
-        3,
-        "",
-        "actx: a.js:1:1: 13 NotYet\n",
-    ),
-    ("const undefined = 1;", 3, "", "actx: a.js:1:1: 13 NotYet\n"),
-    ("console.log(y);", 3, "", "actx: a.js:1:1: 13 NotYet\n"),
-    ("const a = 1; a;", 0, "", ""),
-    ("// nothing", 3, "", "actx: a.js:1:1: 13 NotYet\n"),
-    // The programs of examples/.
-    (
-        "const apples = 3;\nconst pears = 4;\nconst each = 25;\nconsole.log(\"fruit\", apples + pears);\nconsole.log(\"cents\", (apples + pears) * each);\n",
-        0,
-        "fruit 7\ncents 175\n",
-        "",
-    ),
-    (
-        "const request = \"GET /orders/17\";\nconst user = \"ada\";\nconst status = 200;\nconst started = 1200, ended = 1237;\nconst line = user + \" \" + request + \" \" + status;\nconsole.log(line);\nconsole.log(\"took\", ended - started, \"ms\");\n",
-        0,
-        "ada GET /orders/17 200\ntook 37 ms\n",
-        "",
-    ),
-    (
-        "const greatest = 9007199254740991;\nconst least = 0 - greatest;\nconsole.log(\"numbers from\", least, \"to\", greatest);\nconsole.log(\"one more leaves the profile:\");\nconsole.log(greatest + 1);\n",
-        4,
-        "numbers from -9007199254740991 to 9007199254740991\none more leaves the profile:\n",
-        "actx: left the profile\n",
-    ),
-];
+/// Whether a program answers as a case has it.
+fn holds(alloc: Global, case: &Case) -> Result<bool, AllocError> {
+    let got = ran(alloc, case.text.as_str(), NONE)?;
+    let status = format!(in alloc; "{}", got.status)?;
+    Ok(status.as_str() == case.end.as_str()
+        && got.out.as_str() == case.out.as_str()
+        && got.fault.as_str() == case.fault.as_str())
+}
 
-#[test]
-fn programs_run(rt: HostRuntime) -> Result<(), Fail> {
-    for (text, status, out, fault) in RUNS {
-        let got = ran(rt.alloc(), text, NONE)?;
-        assert_eq!(rt; got.status, status, "{text}");
-        assert_eq!(rt; got.out.as_str(), out, "{text}");
-        assert_eq!(rt; got.fault.as_str(), fault, "{text}");
+/// How many cases a table has, and the programs of those that don't hold.
+fn tried(alloc: Global, table: &str) -> Result<(usize, String), AllocError> {
+    let mut failed = String::new(alloc);
+    let table = cases(alloc, table)?;
+    for case in table.iter() {
+        if !holds(alloc, case)? {
+            failed.push_str(case.text.as_str())?;
+        }
     }
-    Ok(())
+    Ok((table.len(), failed))
 }
 
 const SUM: &str = "console.log(1 + 2 * 3);";
