@@ -65,9 +65,11 @@ fn ran(alloc: Global, text: &str, fails: Faults) -> Result<Answer, AllocError> {
 fn holds(alloc: Global, case: &Case) -> Result<bool, AllocError> {
     let got = ran(alloc, case.text.as_str(), NONE)?;
     let status = format!(in alloc; "{}", got.status)?;
-    Ok(status.as_str() == case.end.as_str()
-        && got.out.as_str() == case.out.as_str()
-        && got.fault.as_str() == case.fault.as_str())
+    Ok(
+        status.as_str() == case.end.as_str()
+            && got.out.as_str() == case.out.as_str()
+            && got.fault.as_str() == case.fault.as_str(),
+    )
 }
 
 /// How many cases a table has, and the programs of those that don't hold.
