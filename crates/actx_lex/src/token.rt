@@ -1,0 +1,28 @@
+//! Tokens with their places in a text.
+
+use actx_ast::token::TokenKind;
+
+/// Which texts are read: of users, or of the compiler.
+#[derive(Clone, Copy, Debug, Drop, PartialEq, Eq)]
+pub enum Side {
+    Source,
+    Plain,
+}
+
+/// A token of a text.
+#[derive(Debug, Drop)]
+pub struct Token {
+    pub kind: TokenKind,
+    /// Its first byte.
+    pub at: usize,
+    /// Whether a line end stands between it and the token before it.
+    pub line_before: bool,
+}
+
+/// The tokens of a text.
+#[derive(Debug, Drop)]
+pub struct Tokens {
+    pub list: Vec<Token>,
+    /// The length of the text in bytes.
+    pub end: usize,
+}
