@@ -1,1 +1,7 @@
+pub mod Lexemes
+pub mod Names
+pub mod Forms
+pub mod Grammar
+pub mod Tree
+pub mod View
 pub mod Words

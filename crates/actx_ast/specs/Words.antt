@@ -1,5 +1,5 @@
 -- The reserved words and punctuators as they are written (ECMA-262, 12.7.2 and 12.8), and the forms of tokens.
-use Rattle.std.specs.Prelude.{◌≡◌, ◌≢◌, ℕ, ◌<◌, ◌≤◌, Bool, ◌==◌, ◌||◌, IsTrue, List, ◌∷◌, All, codes}
+use Rattle.std.specs.Prelude.{◌≡◌, ◌≢◌, ℕ, ◌+◌, ◌-◌, ◌/◌, ◌%◌, ◌<◌, ◌≤◌, nat_lt, Bool, ◌==◌, ◌||◌, IsTrue, List, [], ◌∷◌, All, codes, flat_map, if◌then◌else◌}
 use Rattle.unicode_ident.specs.Ident.{is_xid_start, is_xid_continue}
 use Rattle.actx_ast.specs.declared.token.Keyword.{Keyword}
 use Rattle.actx_ast.specs.declared.token.Keyword.TheVariants as k
@@ -107,6 +107,13 @@ pub record IsName (x : List ℕ) : Type 0 where
   pub starts : IsTrue (is_name_start first)
   pub goes_on : All (λ c. IsTrue (is_name_part c)) more
   pub free : (k : Keyword) → x ≢ keyword_text k
+
+-- a character as UTF-16 code units (11.1.1), and a word so
+abbrev pub units_of : ℕ → List ℕ
+units_of c = if nat_lt c 65536 then c ∷ [] else (55296 + (c - 65536) / 1024) ∷ (56320 + (c - 65536) % 1024) ∷ []
+
+abbrev pub word_units : List ℕ → List ℕ
+word_units x = flat_map units_of x
 
 -- FORMS OF TOKENS
 -- the greatest number that is written, 2^53 - 1 (21.1.2.6)

@@ -2,5 +2,8 @@
 #![tactic(auto)]
 
 pub mod name;
+pub mod operators;
+pub mod side;
 pub mod token;
+pub mod tree;
 pub mod words;
