@@ -69,26 +69,47 @@ word x = t.Name x
 abbrev pub dot : TokenKind
 dot = t.Sign s.Dot
 
--- the tokens before the arguments of a form that a side spells by its words, or none
-abbrev pub form_words : Side → Form → Option (List TokenKind)
-form_words side f.Log = Some (word (codes "console") ∷ dot ∷ word (codes "log") ∷ [])
-form_words side (f.NewError name) = Some (t.Keyword k.New ∷ word (error_text name) ∷ [])
-form_words side f.QueueMicrotask = Some (word (codes "queueMicrotask") ∷ [])
-form_words Source f.NewPromise = Some (t.Keyword k.New ∷ word (codes "Promise") ∷ [])
-form_words Source f.PromiseResolve = Some (word (codes "Promise") ∷ dot ∷ word (codes "resolve") ∷ [])
-form_words Source f.PromiseReject = Some (word (codes "Promise") ∷ dot ∷ word (codes "reject") ∷ [])
-form_words Source f.NewVariable = Some (t.Keyword k.New ∷ word (codes "AsyncContext") ∷ dot ∷ word (codes "Variable") ∷ [])
-form_words Source f.NewSnapshot = Some (t.Keyword k.New ∷ word (codes "AsyncContext") ∷ dot ∷ word (codes "Snapshot") ∷ [])
-form_words Source f.Wrap = Some (word (codes "AsyncContext") ∷ dot ∷ word (codes "Snapshot") ∷ dot ∷ word (codes "wrap") ∷ [])
-form_words Source f.HostOn = Some (word (codes "Host") ∷ dot ∷ word (codes "on") ∷ [])
-form_words Source f.Span = Some (word (codes "Trace") ∷ dot ∷ word (codes "span") ∷ [])
-form_words Source f.CurrentSpan = Some (word (codes "Trace") ∷ dot ∷ word (codes "current") ∷ [])
-form_words Plain f.NewWeakMap = Some (t.Keyword k.New ∷ word (codes "WeakMap") ∷ [])
-form_words Plain f.Freeze = Some (word (codes "Object") ∷ dot ∷ word (codes "freeze") ∷ [])
-form_words Plain f.Note = Some (word (codes "__actx") ∷ dot ∷ word (codes "note") ∷ [])
-form_words Plain f.On = Some (word (codes "__actx") ∷ dot ∷ word (codes "on") ∷ [])
-form_words Plain f.Leave = Some (word (codes "__actx") ∷ dot ∷ word (codes "leave") ∷ [])
-form_words _ _ = None
+-- the tokens before the arguments of a form that is spelled by its words
+abbrev pub form_words : Form → List TokenKind
+form_words f.Log = word (codes "console") ∷ dot ∷ word (codes "log") ∷ []
+form_words (f.NewError name) = t.Keyword k.New ∷ word (error_text name) ∷ []
+form_words f.QueueMicrotask = word (codes "queueMicrotask") ∷ []
+form_words f.NewPromise = t.Keyword k.New ∷ word (codes "Promise") ∷ []
+form_words f.PromiseResolve = word (codes "Promise") ∷ dot ∷ word (codes "resolve") ∷ []
+form_words f.PromiseReject = word (codes "Promise") ∷ dot ∷ word (codes "reject") ∷ []
+form_words f.NewVariable = t.Keyword k.New ∷ word (codes "AsyncContext") ∷ dot ∷ word (codes "Variable") ∷ []
+form_words f.NewSnapshot = t.Keyword k.New ∷ word (codes "AsyncContext") ∷ dot ∷ word (codes "Snapshot") ∷ []
+form_words f.Wrap = word (codes "AsyncContext") ∷ dot ∷ word (codes "Snapshot") ∷ dot ∷ word (codes "wrap") ∷ []
+form_words f.HostOn = word (codes "Host") ∷ dot ∷ word (codes "on") ∷ []
+form_words f.Span = word (codes "Trace") ∷ dot ∷ word (codes "span") ∷ []
+form_words f.CurrentSpan = word (codes "Trace") ∷ dot ∷ word (codes "current") ∷ []
+form_words f.NewWeakMap = t.Keyword k.New ∷ word (codes "WeakMap") ∷ []
+form_words f.Freeze = word (codes "Object") ∷ dot ∷ word (codes "freeze") ∷ []
+form_words f.Note = word (codes "__actx") ∷ dot ∷ word (codes "note") ∷ []
+form_words f.On = word (codes "__actx") ∷ dot ∷ word (codes "on") ∷ []
+form_words f.Leave = word (codes "__actx") ∷ dot ∷ word (codes "leave") ∷ []
+form_words _ = []
+
+-- which forms a side spells by their words
+abbrev pub HasWords : Side → Form → Type 0
+HasWords side f.Log = Unit {0}
+HasWords side (f.NewError name) = Unit {0}
+HasWords side f.QueueMicrotask = Unit {0}
+HasWords Source f.NewPromise = Unit {0}
+HasWords Source f.PromiseResolve = Unit {0}
+HasWords Source f.PromiseReject = Unit {0}
+HasWords Source f.NewVariable = Unit {0}
+HasWords Source f.NewSnapshot = Unit {0}
+HasWords Source f.Wrap = Unit {0}
+HasWords Source f.HostOn = Unit {0}
+HasWords Source f.Span = Unit {0}
+HasWords Source f.CurrentSpan = Unit {0}
+HasWords Plain f.NewWeakMap = Unit {0}
+HasWords Plain f.Freeze = Unit {0}
+HasWords Plain f.Note = Unit {0}
+HasWords Plain f.On = Unit {0}
+HasWords Plain f.Leave = Unit {0}
+HasWords _ _ = ⊥
 
 -- how many parts a form takes; the kind of a coroutine is none
 abbrev pub Suits : Form → ℕ → Type 0

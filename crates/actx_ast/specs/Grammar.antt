@@ -16,7 +16,7 @@ use Rattle.actx_ast.specs.declared.token.Sign.{Sign}
 use Rattle.actx_ast.specs.declared.token.Sign.TheVariants as s
 use Rattle.actx_ast.specs.declared.token.TokenKind.{TokenKind}
 use Rattle.actx_ast.specs.declared.token.TokenKind.TheVariants as t
-use Rattle.actx_ast.specs.Forms.{unary_word, level_of, sign_of, change_of, bump_sign, form_words, Suits}
+use Rattle.actx_ast.specs.Forms.{unary_word, level_of, sign_of, change_of, bump_sign, form_words, HasWords, Suits}
 use Rattle.actx_ast.specs.Lexemes.{Lexeme, sign, keyword, lexeme, kinds, SameLine}
 use Rattle.actx_ast.specs.Names.{IsBinding, IsReference, IsOwnName, word_of, IsKey, key_of}
 use Rattle.actx_ast.specs.Tree.{Expr, Num, Text, Truth, Null, Undefined, This, Named, Unary, Binary, Logic, Choice, SetName, SetMember, Change, Bump, Member, Call, Object, Function, Yield, YieldAll, Await, Built, Exprs, none, also, MaybeExpr, no_expr, some_expr, Key, Dot, Index, PropKey, Fixed, Computed, Properties, no_properties, property, Code, code, LetItems, no_lets, let_item, ConstItems, no_consts, const_item, Init, init_nothing, init_let, init_const, init_value, Stmt, Let, Const, Fun, Block, If, While, DoWhile, For, ForOf, ForAwait, Break, Continue, Return, Throw, Try, Value, Empty, Switch, MaybeStmt, no_stmt, some_stmt, Catch, no_catch, catch, Last, no_last, last, Clauses, no_clauses, clause, Stmts, end, next}
@@ -165,7 +165,7 @@ mutual
     -- level 11
     sp_member : {l d : ℕ} {e : Expr} {key : Key} {x y : List Lexeme} → l ≤ 11 → Spells side most 11 d e x → SpellsKey side most d key y → Spells side most l (suc d) (Member e key) (x ++ y)
     sp_call : {l d : ℕ} {f : Expr} {es : Exprs} {x y : List Lexeme} → l ≤ 11 → Spells side most 11 d f x → SpellsArguments side most d es y → Spells side most l (suc d) (Call f es) (x ++ y)
-    sp_form : {l d : ℕ} {es : Exprs} {y : List Lexeme} (form : Form) (x : List Lexeme) → l ≤ 11 → form_words side form ≡ Some (kinds x) → SpellsArguments side most d es y → Suits form (count es) → Spells side most l (suc d) (Built form es) (x ++ y)
+    sp_form : {l d : ℕ} {es : Exprs} {y : List Lexeme} (form : Form) (x : List Lexeme) → l ≤ 11 → HasWords side form → form_words form ≡ kinds x → SpellsArguments side most d es y → Suits form (count es) → Spells side most l (suc d) (Built form es) (x ++ y)
     sp_call_with : {l d : ℕ} {f : Expr} {es : Exprs} {x y : List Lexeme} (b c : Bool) → side ≡ Plain → l ≤ 11 → Spells side most 11 d f x → SpellsArguments side most d es y → Spells side most l (suc d) (Built CallWith (also f es)) (x ++ sign s.Dot b ∷ lexeme (t.Name (codes "call")) c ∷ y)
     -- level 12
     sp_name : {l d : ℕ} {x : List ℕ} {b : Bool} → IsReference side x → Spells side most l (suc d) (Named x) (lexeme (t.Name x) b ∷ [])

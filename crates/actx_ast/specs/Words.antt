@@ -58,6 +58,56 @@ keyword_text k.While = codes "while"
 keyword_text k.With = codes "with"
 keyword_text k.Yield = codes "yield"
 
+abbrev pub keywords : List Keyword
+keywords =
+    k.Async ∷
+    k.Await ∷
+    k.Break ∷
+    k.Case ∷
+    k.Catch ∷
+    k.Class ∷
+    k.Const ∷
+    k.Continue ∷
+    k.Debugger ∷
+    k.Default ∷
+    k.Delete ∷
+    k.Do ∷
+    k.Else ∷
+    k.Enum ∷
+    k.Export ∷
+    k.Extends ∷
+    k.False ∷
+    k.Finally ∷
+    k.For ∷
+    k.Function ∷
+    k.If ∷
+    k.Implements ∷
+    k.Import ∷
+    k.In ∷
+    k.Instanceof ∷
+    k.Interface ∷
+    k.Let ∷
+    k.New ∷
+    k.Null ∷
+    k.Package ∷
+    k.Private ∷
+    k.Protected ∷
+    k.Public ∷
+    k.Return ∷
+    k.Static ∷
+    k.Super ∷
+    k.Switch ∷
+    k.This ∷
+    k.Throw ∷
+    k.True ∷
+    k.Try ∷
+    k.Typeof ∷
+    k.Var ∷
+    k.Void ∷
+    k.While ∷
+    k.With ∷
+    k.Yield ∷ []
+
 -- the punctuators (12.8)
 abbrev pub sign_text : Sign → List ℕ
 sign_text s.OpenBrace = codes "{"
