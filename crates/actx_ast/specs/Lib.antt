@@ -6,3 +6,7 @@ pub mod Spell
 pub mod Tree
 pub mod View
 pub mod Words
+pub mod ParserState
+pub mod ParserOperands
+pub mod ParserFunctions
+pub mod Parser
