@@ -10,3 +10,4 @@ pub mod ParserState
 pub mod ParserOperands
 pub mod ParserFunctions
 pub mod Parser
+pub mod Exact
