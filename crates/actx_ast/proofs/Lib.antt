@@ -1,0 +1,5 @@
+pub mod ParseRuns
+pub mod ParseNames
+pub mod ParseLevels
+pub mod ParseSteps
+pub mod ParseEnds
