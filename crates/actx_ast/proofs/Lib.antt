@@ -3,3 +3,5 @@ pub mod ParseNames
 pub mod ParseLevels
 pub mod ParseSteps
 pub mod ParseEnds
+pub mod ParseBegins
+pub mod ParseCover
