@@ -5,3 +5,6 @@ pub mod ParseSteps
 pub mod ParseEnds
 pub mod ParseBegins
 pub mod ParseCover
+pub mod ParseParams
+pub mod ParseForms
+pub mod ParseHeads

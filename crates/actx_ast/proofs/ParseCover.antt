@@ -111,7 +111,7 @@ pub branch_begins : (lim : Limits) (side : Side) (s : List Frame) (x r : List Le
 branch_begins lim side s [] r h i = absurd h
 branch_begins lim side s (w ∷ x) r h i = ap (after lim side (x ++ r)) (branch_move lim side s w.kind (kinds x) w.line_before (first_operand w.kind (kinds x) h) i)
 
-start_move : (lim : Limits) (side : Side) (s : List Frame) (t : TokenKind) (x : List TokenKind) (b : Bool) → begins_operand t ≡ true → IsStatementStart (t ∷ x) → (t ≡ t.Keyword k.Async → ⊥) → move lim side start s t b ≡ move lim side need (in_value ∷ s) t b
+start_move : (lim : Limits) (side : Side) (s : List Frame) (u : TokenKind) (x : List TokenKind) (b : Bool) → begins_operand u ≡ true → IsStatementStart (u ∷ x) → (u ≡ t.Keyword k.Async → ⊥) → move lim side start s u b ≡ move lim side need (in_value ∷ s) u b
 start_move lim side s (t.Keyword k.Function) x b h i j = absurd i
 start_move lim side s (t.Keyword k.This) x b h i j = refl
 start_move lim side s (t.Keyword k.True) x b h i j = refl
@@ -130,7 +130,7 @@ start_move lim side s (t.Sign g.CloseBrace) x b h i j = absurd (cc)
 start_move lim side s (t.Sign _) x b h i j = refl
 start_move lim side s _ x b h i j = refl
 
-async_move : (lim : Limits) (s : List Frame) (t : TokenKind) (x : List TokenKind) (b : Bool) → fits lim (here (in_value ∷ s)) ≡ true → IsStatementStart (t.Keyword k.Async ∷ t ∷ x) → move lim Source async_start s t b ≡ move lim Source async_next (in_value ∷ s) t b
+async_move : (lim : Limits) (s : List Frame) (u : TokenKind) (x : List TokenKind) (b : Bool) → fits lim (here (in_value ∷ s)) ≡ true → IsStatementStart (t.Keyword k.Async ∷ u ∷ x) → move lim Source async_start s u b ≡ move lim Source async_next (in_value ∷ s) u b
 async_move lim s (t.Keyword k.Function) x b h i = absurd i
 async_move lim s (t.Keyword w) x b h i = ap (λ c. cond c (at_async Source (in_value ∷ s) (t.Keyword w) b) refuse) h
 async_move lim s t x b h i = ap (λ c. cond c (at_async Source (in_value ∷ s) t b) refuse) h
