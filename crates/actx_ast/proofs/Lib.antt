@@ -8,3 +8,7 @@ pub mod ParseCover
 pub mod ParseParams
 pub mod ParseForms
 pub mod ParseHeads
+pub mod ParseHeld
+pub mod ParseReads
+pub mod ParseRows
+pub mod ParseUnary

@@ -1,5 +1,5 @@
 -- The words of forms are read.
-use Rattle.std.proofs.Common.{◌≡◌, ℕ, suc, ◌≤◌, List, [], ◌∷◌, ◌++◌, Bool, true, false, ◌&&◌, ◌||◌, Option, Some, None, cond, refl, sym, ◌∙◌, ap, subst, arith, append_assoc}
+use Rattle.std.proofs.Common.{◌≡◌, ℕ, zero, suc, ◌≤◌, List, [], ◌∷◌, ◌++◌, Bool, true, false, ◌&&◌, ◌||◌, Option, Some, None, cond, refl, sym, ◌∙◌, ap, subst, arith, append_assoc}
 use Rattle.std.proofs.lemmas.List.{append-nil}
 use Rattle.std.specs.Prelude.{nat_eq}
 use Rattle.std.proofs.lemmas.Bool.Decides.{nat_tests}
@@ -211,5 +211,5 @@ least_most Plain _ m w h = absurd w
 
 -- a form with no parts needs none, and one with parts has room for them
 pub parts_fit : (lim : Limits) (least m depth : ℕ) → least ≤ m → (1 ≤ m → fits lim (suc depth) ≡ true) → (nat_eq least 0 || fits lim (suc depth)) ≡ true
-parts_fit lim 0 m depth h on = refl
+parts_fit lim zero m depth h on = refl
 parts_fit lim (suc least) m depth h on = either_right (nat_eq (suc least) 0) (fits lim (suc depth)) (on (omega arith))

@@ -73,3 +73,16 @@ level_great _ = omega arith
 pub grip_op : (op : BinaryOp) → grip_sign (sign_of op) ≡ level_of op
 grip_op o.Same = refl
 grip_op _ = refl
+
+-- nothing binds at level 2
+low_sign : (w : Sign) → grip_sign w ≤ 2 → grip_sign w ≤ 1
+low_sign g.Comma h = omega arith
+low_sign _ h = omega arith
+
+low_kind : (w : TokenKind) → grip w ≤ 2 → grip w ≤ 1
+low_kind (t.Sign w) h = low_sign w h
+low_kind _ h = omega arith
+
+pub low : (r : List Lexeme) → binds r ≤ 2 → binds r ≤ 1
+low [] h = omega arith
+low (w ∷ r) h = low_kind w.kind h
