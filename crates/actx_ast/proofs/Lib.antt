@@ -12,3 +12,6 @@ pub mod ParseHeld
 pub mod ParseReads
 pub mod ParseRows
 pub mod ParseUnary
+pub mod ParseMembers
+pub mod ParseKeys
+pub mod ParseObjects
