@@ -15,3 +15,6 @@ pub mod ParseUnary
 pub mod ParseMembers
 pub mod ParseKeys
 pub mod ParseObjects
+pub mod ParseBodies
+pub mod ParseItems
+pub mod ParseBehind

@@ -103,17 +103,17 @@ pub record Opened (lim : Limits) (side : Side) (d : ℕ) (ps : Properties) (kind
   pub within : reach ≤ suc (suc d + levels s)
   pub same : from ≡ runs lim side (body_open (function_head (method ps key reach) kind None) xs) s r
 
-method_opens : {side : Side} {kind : FunctionKind} {w x y : List Lexeme} {xs : List (List ℕ)} (lim : Limits) (d : ℕ) (key : PropKey) (h : SpellsMethodHead side kind w) (p : SpellsParams side lim.most xs y) → KeyFollows kind x → ReadsPropKey lim side (suc d) key x → ReadsMethodKey lim side (suc d) key x
+method_opens : {side : Side} {kind : FunctionKind} {w y : List Lexeme} {xs : List (List ℕ)} (lim : Limits) (d : ℕ) (key : PropKey) (x : List Lexeme) (h : SpellsMethodHead side kind w) (p : SpellsParams side lim.most xs y) → KeyFollows kind x → ReadsPropKey lim side (suc d) key x → ReadsMethodKey lim side (suc d) key x
     → ((ps : Properties) (n : ℕ) (s : List Frame) (r : List Lexeme) → SameLine x → runs lim side (key_async ps n) s (x ++ r) ≡ runs lim side (method_key ps Async n) s (x ++ r))
     → (ps : Properties) (n : ℕ) (s : List Frame) (r : List Lexeme) → n ≤ suc (suc d + levels s) → Fit lim (suc (suc d + levels s)) → Opened lim side d ps kind key xs (runs lim side (key_next ps n) s (w ++ (x ++ (y ++ r)))) s r
-method_opens {side = side} {x = x} {y = y} lim d key sp_method_head p i q o g ps n s r j f =
+method_opens {side = side} {y = y} lim d key x sp_method_head p i q o g ps n s r j f =
     let a = q ps n s (y ++ r) (params_behind p r) (omega arith) j f in
     record {
       reach = a.reach;
       within = a.within;
       same = a.same ∙ params_read lim p (key_behind ps key a.reach) (function_head (method ps key a.reach) Normal None) s r (λ b. refl);
     }
-method_opens {side = side} {x = x} {y = y} lim d key (sp_generator_head c) p i q o g ps n s r j f =
+method_opens {side = side} {y = y} lim d key x (sp_generator_head c) p i q o g ps n s r j f =
     let a = o ps Generator n s (y ++ r) j f in
     record {
       reach = a.reach;
@@ -123,7 +123,7 @@ method_opens {side = side} {x = x} {y = y} lim d key (sp_generator_head c) p i q
         ∙ a.same
         ∙ params_read lim p (method_open ps Generator key a.reach) (function_head (method ps key a.reach) Generator None) s r (λ b. refl);
     }
-method_opens {side = Source} {x = x} {y = y} lim d key (sp_async_head c) p i q o g ps n s r j f =
+method_opens {side = Source} {y = y} lim d key x (sp_async_head c) p i q o g ps n s r j f =
     let a = o ps Async n s (y ++ r) j f in
     record {
       reach = a.reach;
@@ -134,7 +134,7 @@ method_opens {side = Source} {x = x} {y = y} lim d key (sp_async_head c) p i q o
         ∙ a.same
         ∙ params_read lim p (method_open ps Async key a.reach) (function_head (method ps key a.reach) Async None) s r (λ b. refl);
     }
-method_opens {side = Plain} lim d key (sp_async_head c) p i q o g ps n s r j f = absurd (cc)
+method_opens {side = Plain} lim d key x (sp_async_head c) p i q o g ps n s r j f = absurd (cc)
 
 pub row_method : {side : Side} {kind : FunctionKind} {xs : List (List ℕ)} (lim : Limits) (b c : Bool) (d : ℕ) (key : PropKey) (ss : Stmts) (w x y z : List Lexeme) (h : SpellsMethodHead side kind w) (p : SpellsParams side lim.most xs y) → KeyFollows kind x → ReadsPropKey lim side (suc d) key x → ReadsMethodKey lim side (suc d) key x
     → ((ps : Properties) (n : ℕ) (s : List Frame) (r : List Lexeme) → SameLine x → runs lim side (key_async ps n) s (x ++ r) ≡ runs lim side (method_key ps Async n) s (x ++ r))
@@ -143,7 +143,7 @@ pub row_method : {side : Side} {kind : FunctionKind} {xs : List (List ℕ)} (lim
 row_method {side = side} {kind = kind} {xs = xs} lim b c d key ss w x y z h p i q o a v ps n s e l r j f =
     let last : List Lexeme = sign (property_sign e) l ∷ r in
     let tail : List Lexeme = sign g.OpenBrace b ∷ (z ++ sign g.CloseBrace c ∷ []) in
-    let head = method_opens lim d key h p i q o a ps n s (tail ++ last) j f in
+    let head = method_opens lim d key x h p i q o a ps n s (tail ++ last) j f in
     let m : ℕ = max head.reach (suc (here s)) in
     let inner = v (body (function_head (method ps key head.reach) kind None) xs) end m s (sign g.CloseBrace c ∷ last) tt (fit_less lim f (omega arith)) in
     record {
