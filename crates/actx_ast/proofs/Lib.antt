@@ -18,3 +18,5 @@ pub mod ParseObjects
 pub mod ParseBodies
 pub mod ParseItems
 pub mod ParseBehind
+pub mod ParseStatements
+pub mod ParseLoops

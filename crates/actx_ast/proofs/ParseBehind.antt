@@ -43,15 +43,15 @@ yes_ends lim side e st m n s (w ∷ r) h = ap (after lim side r) (yes_move lim s
 
 -- a statement that ends with its part, whatever follows
 pub data Closes : Frame → Stmt → ℕ → Stmt → ℕ → Type 0 where
-  closes_no : (e : Expr) (yes st : Stmt) (m n : ℕ) → Closes (no_of e yes m) st n (If e yes (some_stmt st)) (max m n)
+  closes_no : (e : Expr) (branch st : Stmt) (m n : ℕ) → Closes (no_of e branch m) st n (If e branch (some_stmt st)) (max m n)
   closes_while : (e : Expr) (st : Stmt) (m n : ℕ) → Closes (while_of e m) st n (While e st) (max m n)
   closes_for : (i : Init) (test update : MaybeExpr) (st : Stmt) (m n : ℕ) → Closes (for_body i test update m) st n (For i test update st) (max m n)
   closes_for_of : (c : Bool) (x : List ℕ) (e : Expr) (st : Stmt) (m n : ℕ) → Closes (for_of_body c x e m) st n (ForOf c x e st) (max m n)
 
 closes_move : {f : Frame} {st dt : Stmt} {n m : ℕ} (p : Closes f st n dt m) (lim : Limits) (side : Side) (s : List Frame) (w : TokenKind) (b : Bool) → move lim side (have_stmt st n) (f ∷ s) w b ≡ move lim side (have_stmt dt m) s w b
-closes_move (closes_no e yes st m n) lim side s (t.Keyword k.Else) b = refl
-closes_move (closes_no e yes st m n) lim side s (t.Keyword _) b = refl
-closes_move (closes_no e yes st m n) lim side s _ b = refl
+closes_move (closes_no e branch st m n) lim side s (t.Keyword k.Else) b = refl
+closes_move (closes_no e branch st m n) lim side s (t.Keyword _) b = refl
+closes_move (closes_no e branch st m n) lim side s _ b = refl
 closes_move (closes_while e st m n) lim side s (t.Keyword k.Else) b = refl
 closes_move (closes_while e st m n) lim side s (t.Keyword _) b = refl
 closes_move (closes_while e st m n) lim side s _ b = refl
@@ -63,7 +63,7 @@ closes_move (closes_for_of c x e st m n) lim side s (t.Keyword _) b = refl
 closes_move (closes_for_of c x e st m n) lim side s _ b = refl
 
 closes_finish : {f : Frame} {st dt : Stmt} {n m : ℕ} (p : Closes f st n dt m) (s : List Frame) → finish (have_stmt st n) (f ∷ s) ≡ finish (have_stmt dt m) s
-closes_finish (closes_no e yes st m n) s = refl
+closes_finish (closes_no e branch st m n) s = refl
 closes_finish (closes_while e st m n) s = refl
 closes_finish (closes_for i test update st m n) s = refl
 closes_finish (closes_for_of c x e st m n) s = refl
