@@ -20,3 +20,5 @@ pub mod ParseItems
 pub mod ParseBehind
 pub mod ParseStatements
 pub mod ParseLoops
+pub mod ParseComplete
+pub mod ParseAll
