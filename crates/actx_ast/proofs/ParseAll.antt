@@ -1,14 +1,13 @@
 -- What is spelled is parsed: programs.
-use Rattle.std.proofs.Common.{◌≡◌, ℕ, suc, ◌+◌, ◌≤◌, List, [], ◌∷◌, ◌++◌, true, Option, Some, None, refl, sym, ◌∙◌, ap, arith}
+use Rattle.std.proofs.Common.{◌≡◌, ◌+◌, [], ◌∷◌, Some, refl, sym, ◌∙◌, ap, arith}
 use Rattle.std.proofs.lemmas.List.{append-nil}
 use Rattle.actx_ast.specs.declared.side.Side.{Side}
 use Rattle.actx_ast.specs.declared.side.Side.TheVariants.{Source, Plain}
 use Rattle.actx_ast.specs.Exact.{ParsesWhatIsSpelled}
-use Rattle.actx_ast.specs.Grammar.{deepest, most, IsSpelled, OneTree}
-use Rattle.actx_ast.specs.Lexemes.{Lexeme}
-use Rattle.actx_ast.specs.Parser.{limits, parse, parsed, Outcome}
+use Rattle.actx_ast.specs.Grammar.{deepest, most, OneTree}
+use Rattle.actx_ast.specs.Parser.{limits, parsed}
 use Rattle.actx_ast.specs.ParserState.{start, program, in_list, levels}
-use Rattle.actx_ast.specs.Tree.{Stmts, end}
+use Rattle.actx_ast.specs.Tree.{end}
 use Rattle.actx_ast.proofs.ParseComplete.{Free, complete_stmts}
 use Rattle.actx_ast.proofs.ParseNames.{le_true}
 use Rattle.actx_ast.proofs.ParseReads.{owner_levels}

@@ -1,5 +1,5 @@
 -- How an expression begins.
-use Rattle.std.proofs.Common.{◌≡◌, ℕ, suc, ◌≤◌, List, [], ◌∷◌, ◌++◌, Bool, true, false, Option, Some, refl, sym, ap, subst, arith}
+use Rattle.std.proofs.Common.{◌≡◌, ℕ, ◌≤◌, List, [], ◌∷◌, ◌++◌, Bool, true, false, Option, Some, refl, sym, ap, subst, arith}
 use Rattle.std.specs.Prelude.{codes}
 use Rattle.actx_ast.specs.declared.operators.BinaryOp.{BinaryOp}
 use Rattle.actx_ast.specs.declared.operators.BinaryOp.TheVariants as o
@@ -15,7 +15,7 @@ use Rattle.actx_ast.specs.declared.token.Sign.{Sign}
 use Rattle.actx_ast.specs.declared.token.Sign.TheVariants as g
 use Rattle.actx_ast.specs.declared.token.TokenKind.{TokenKind}
 use Rattle.actx_ast.specs.declared.token.TokenKind.TheVariants as t
-use Rattle.actx_ast.specs.Forms.{unary_word, level_of, sign_of, change_of, bump_sign, form_words, HasWords}
+use Rattle.actx_ast.specs.Forms.{unary_word, sign_of, change_of, bump_sign, form_words, HasWords}
 use Rattle.actx_ast.specs.Grammar.{IsStatementStart, StartsStatement, SpellsParams, sp_no_params, sp_params, sp_params_comma, SpellsArrowParams, sp_bare_param, sp_listed_params, SpellsHead, sp_normal, sp_normal_named, sp_generator, sp_generator_named, sp_async, sp_async_named, SpellsArrow, sp_arrow_head, sp_async_arrow_head, Spells, SpellsOr, SpellsCoalesce, SpellsKey, SpellsArguments, SpellsFunction, sp_arrow, sp_short_arrow, sp_yield_nothing, sp_yield, sp_yield_all, sp_set_name, sp_set_member, sp_change, sp_choice, sp_or, sp_coalesce, sp_and, sp_binary, sp_unary, sp_await, sp_bump_before, sp_bump_behind, sp_member, sp_call, sp_form, sp_call_with, sp_name, sp_number, sp_text, sp_true, sp_false, sp_null, sp_undefined, sp_this, sp_object, sp_function, sp_paren, sp_first_or, sp_more_or, sp_first_coalesce, sp_more_coalesce, sp_dot, sp_index, sp_no_arguments, sp_arguments, sp_arguments_comma, sp_code}
 use Rattle.actx_ast.specs.Lexemes.{Lexeme, sign, keyword, lexeme, kinds}
 use Rattle.actx_ast.specs.ParserFunctions.{begins_operand}

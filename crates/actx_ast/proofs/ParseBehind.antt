@@ -1,21 +1,19 @@
 -- What a statement ends, and how statements begin.
-use Rattle.std.proofs.Common.{◌≡◌, ℕ, suc, max, ◌+◌, ◌≤◌, List, [], ◌∷◌, ◌++◌, Bool, true, false, Option, Some, None, refl, sym, ◌∙◌, ap, subst, arith, append_assoc}
-use Rattle.actx_ast.specs.declared.operators.FunctionKind.{FunctionKind}
+use Rattle.std.proofs.Common.{◌≡◌, ℕ, max, ◌+◌, List, [], ◌∷◌, ◌++◌, Bool, true, false, Option, Some, refl, sym, ◌∙◌, ap, subst, arith, append_assoc}
 use Rattle.actx_ast.specs.declared.side.Side.{Side}
-use Rattle.actx_ast.specs.declared.side.Side.TheVariants.{Source, Plain}
 use Rattle.actx_ast.specs.declared.token.Keyword.TheVariants as k
 use Rattle.actx_ast.specs.declared.token.Sign.TheVariants as g
 use Rattle.actx_ast.specs.declared.token.TokenKind.{TokenKind}
 use Rattle.actx_ast.specs.declared.token.TokenKind.TheVariants as t
-use Rattle.actx_ast.specs.Grammar.{ends_open, IsBody, SpellsHead, sp_normal_named, sp_generator_named, sp_async_named, SpellsStmt, sp_let, sp_const, sp_fun, sp_code, sp_block, sp_braces, sp_if, sp_if_else, sp_while, sp_do_while, sp_for, sp_for_of_let, sp_for_of_const, sp_break, sp_continue, sp_return_nothing, sp_return, sp_throw, sp_try_catch, sp_try_finally, sp_try_both, sp_value, sp_empty, sp_switch, SpellsStmts, sp_end, sp_next, SpellsClauses, sp_no_clauses, sp_default, sp_case}
-use Rattle.actx_ast.specs.Lexemes.{Lexeme, sign, keyword, kinds}
+use Rattle.actx_ast.specs.Grammar.{IsBody, sp_normal_named, sp_generator_named, sp_async_named, SpellsStmt, sp_let, sp_const, sp_fun, sp_code, sp_block, sp_braces, sp_if, sp_if_else, sp_while, sp_do_while, sp_for, sp_for_of_let, sp_for_of_const, sp_break, sp_continue, sp_return_nothing, sp_return, sp_throw, sp_try_catch, sp_try_finally, sp_try_both, sp_value, sp_empty, sp_switch, SpellsStmts, sp_end, sp_next, SpellsClauses, sp_no_clauses, sp_default, sp_case}
+use Rattle.actx_ast.specs.Lexemes.{Lexeme, sign, kinds}
 use Rattle.actx_ast.specs.Parser.{move, finish, with_stmt, with_clause}
 use Rattle.actx_ast.specs.ParserFunctions.{begins_operand}
-use Rattle.actx_ast.specs.ParserState.{Limits, fits, ListOwner, program, body, block, tried, caught, finally, clause_of, Frame, in_value, yes_of, no_of, while_of, for_body, for_of_body, in_list, Mode, start, body_start, have_stmt, finally_next, clause_next, levels, here}
-use Rattle.actx_ast.specs.Tree.{Expr, Stmt, If, While, For, ForOf, Try, no_stmt, some_stmt, no_last, Init, MaybeExpr, Catch, Clauses, no_clauses, clause, Stmts, end, next}
+use Rattle.actx_ast.specs.ParserState.{Limits, ListOwner, program, clause_of, Frame, in_value, yes_of, no_of, while_of, for_body, for_of_body, in_list, start, body_start, have_stmt, finally_next, clause_next, levels, here}
+use Rattle.actx_ast.specs.Tree.{Expr, Stmt, If, While, For, ForOf, Try, no_stmt, some_stmt, no_last, Init, MaybeExpr, Catch, Clauses, Stmts}
 use Rattle.actx_ast.proofs.ParseBegins.{BeginsValue, first_operand, value_begins, some_depth}
 use Rattle.actx_ast.proofs.ParseCover.{branch_begins, start_begins}
-use Rattle.actx_ast.proofs.ParseReads.{BehindKind, Behind, joined}
+use Rattle.actx_ast.proofs.ParseReads.{BehindKind, Behind}
 use Rattle.actx_ast.proofs.ParseRuns.{runs, after, Fit}
 
 -- WHAT STANDS BEHIND

@@ -1,21 +1,20 @@
 -- Functions with their bodies are read.
-use Rattle.std.proofs.Common.{◌≡◌, ℕ, suc, max, ◌+◌, ◌≤◌, List, [], ◌∷◌, ◌++◌, Bool, true, false, Option, Some, None, refl, sym, ◌∙◌, ap, subst, arith, append_assoc}
+use Rattle.std.proofs.Common.{ℕ, suc, ◌≤◌, List, [], ◌∷◌, ◌++◌, Bool, false, Option, Some, None, refl, ◌∙◌, ap, subst, arith, append_assoc}
 use Rattle.actx_ast.specs.declared.operators.FunctionKind.{FunctionKind}
 use Rattle.actx_ast.specs.declared.side.Side.{Side}
 use Rattle.actx_ast.specs.declared.token.Sign.TheVariants as g
-use Rattle.actx_ast.specs.Grammar.{StartsBody, SpellsParams, SpellsHead, SpellsArrow, ends_open}
+use Rattle.actx_ast.specs.Grammar.{StartsBody, SpellsParams, SpellsHead, SpellsArrow}
 use Rattle.actx_ast.specs.Lexemes.{Lexeme, sign, kinds}
-use Rattle.actx_ast.specs.ParserState.{Limits, fits, expression, declaration, arrow_head, function_head, body, Frame, in_arrow, in_list, Mode, start, need, have, whole, body_open, arrow_body, levels, here}
-use Rattle.actx_ast.specs.Tree.{Expr, Function, some_expr, code, Stmt, Fun, Return, Stmts, end, next}
+use Rattle.actx_ast.specs.ParserState.{Limits, expression, declaration, arrow_head, function_head, body, in_arrow, in_list, start, need, here}
+use Rattle.actx_ast.specs.Tree.{Expr, Function, some_expr, code, Fun, Return, Stmts, end, next}
 use Rattle.actx_ast.proofs.ParseBegins.{BeginsValue}
 use Rattle.actx_ast.proofs.ParseCover.{body_begins}
 use Rattle.actx_ast.proofs.ParseEnds.{ends}
 use Rattle.actx_ast.proofs.ParseHeads.{head_read, declaration_read}
-use Rattle.actx_ast.proofs.ParseLevels.{level_in, binds}
 use Rattle.actx_ast.proofs.ParseParams.{arrow_read}
-use Rattle.actx_ast.proofs.ParseReads.{Operand, ReadsStmt, ReadsStmts, joined}
-use Rattle.actx_ast.proofs.ParseRuns.{runs, after, Gives, Fit, fit_less, if_holds}
-use Rattle.actx_ast.proofs.ParseSteps.{Room, Starts, whole_have, ends_arrow}
+use Rattle.actx_ast.proofs.ParseReads.{Operand, ReadsStmt, ReadsStmts}
+use Rattle.actx_ast.proofs.ParseRuns.{runs, fit_less}
+use Rattle.actx_ast.proofs.ParseSteps.{Starts, whole_have, ends_arrow}
 
 -- ARROWS
 pub row_arrow : {side : Side} {kind : FunctionKind} {xs : List (List ℕ)} (lim : Limits) (b c : Bool) (l d : ℕ) (ss : Stmts) (x y : List Lexeme) → l ≤ 1 → SpellsArrow side lim.most kind xs x → ReadsStmts lim side d ss y
@@ -26,11 +25,11 @@ row_arrow {side = side} {kind = kind} {xs = xs} lim b c l d ss x y h q p s r i j
       reach = a.reach;
       within = omega (arith, a.within);
       same =
-        ap (runs lim side need s) (append_assoc x (sign g.Arrow false ∷ sign g.OpenBrace b ∷ (y ++ sign g.CloseBrace c ∷ [])) r)
-        ∙ arrow_read lim q s (sign g.OpenBrace b ∷ ((y ++ sign g.CloseBrace c ∷ []) ++ r)) (m.deep (here s) (omega arith)) m.more (omega arith)
-        ∙ ap (runs lim side start (in_list (body (arrow_head kind) xs) end (here s) ∷ s)) (append_assoc y (sign g.CloseBrace c ∷ []) r)
-        ∙ a.same
-        ∙ whole_have lim side (Function (code None kind xs ss)) a.reach s r (omega arith);
+          ap (runs lim side need s) (append_assoc x (sign g.Arrow false ∷ sign g.OpenBrace b ∷ (y ++ sign g.CloseBrace c ∷ [])) r)
+          ∙ arrow_read lim q s (sign g.OpenBrace b ∷ ((y ++ sign g.CloseBrace c ∷ []) ++ r)) (m.deep (here s) (omega arith)) m.more (omega arith)
+          ∙ ap (runs lim side start (in_list (body (arrow_head kind) xs) end (here s) ∷ s)) (append_assoc y (sign g.CloseBrace c ∷ []) r)
+          ∙ a.same
+          ∙ whole_have lim side (Function (code None kind xs ss)) a.reach s r (omega arith);
     }
 
 pub row_short_arrow : {side : Side} {kind : FunctionKind} {xs : List (List ℕ)} (lim : Limits) (l d : ℕ) (e : Expr) (x y : List Lexeme) → l ≤ 1 → SpellsArrow side lim.most kind xs x → BeginsValue (kinds y) → StartsBody y → Operand lim side 1 d e y
@@ -41,11 +40,11 @@ row_short_arrow {side = side} {kind = kind} {xs = xs} lim l d e x y h q v w p s 
       reach = a.reach;
       within = omega (arith, a.within);
       same =
-        ap (runs lim side need s) (append_assoc x (sign g.Arrow false ∷ y) r)
-        ∙ arrow_read lim q s (y ++ r) (m.deep (here s) (omega arith)) m.more (omega arith)
-        ∙ body_begins lim side kind xs s y r v w
-        ∙ a.same
-        ∙ ends (ends_arrow kind xs e a.reach) lim side s r (omega arith) (omega arith);
+          ap (runs lim side need s) (append_assoc x (sign g.Arrow false ∷ y) r)
+          ∙ arrow_read lim q s (y ++ r) (m.deep (here s) (omega arith)) m.more (omega arith)
+          ∙ body_begins lim side kind xs s y r v w
+          ∙ a.same
+          ∙ ends (ends_arrow kind xs e a.reach) lim side s r (omega arith) (omega arith);
     }
 
 -- FUNCTIONS
@@ -58,10 +57,10 @@ row_function {side = side} {kind = kind} {name = name} {xs = xs} lim b c l d ss 
       reach = a.reach;
       within = omega (arith, a.within);
       same =
-        ap (runs lim side need s) (append_assoc (x ++ y) tail r ∙ append_assoc x y (tail ++ r))
-        ∙ head_read lim h q (y ++ tail) s (tail ++ r) (m.deep (here s) (omega arith)) m.more (subst (λ w. Starts s w) (append_assoc x y tail) m.starts)
-        ∙ ap (runs lim side start (in_list (body (function_head expression kind name) xs) end (here s) ∷ s)) (append_assoc z (sign g.CloseBrace c ∷ []) r)
-        ∙ a.same;
+          ap (runs lim side need s) (append_assoc (x ++ y) tail r ∙ append_assoc x y (tail ++ r))
+          ∙ head_read lim h q (y ++ tail) s (tail ++ r) (m.deep (here s) (omega arith)) m.more (subst (λ w. Starts s w) (append_assoc x y tail) m.starts)
+          ∙ ap (runs lim side start (in_list (body (function_head expression kind name) xs) end (here s) ∷ s)) (append_assoc z (sign g.CloseBrace c ∷ []) r)
+          ∙ a.same;
     }
 
 pub row_declaration : {side : Side} {kind : FunctionKind} {name : List ℕ} {xs : List (List ℕ)} (lim : Limits) (b c : Bool) (d : ℕ) (ss : Stmts) (x y z : List Lexeme) → SpellsHead side kind (Some name) x → SpellsParams side lim.most xs y → ReadsStmts lim side d ss z
@@ -73,8 +72,8 @@ row_declaration {side = side} {kind = kind} {name = name} {xs = xs} lim b c d ss
       reach = a.reach;
       within = omega (arith, a.within);
       same =
-        ap (runs lim side start s) (append_assoc (x ++ y) tail r ∙ append_assoc x y (tail ++ r))
-        ∙ declaration_read lim h q s (tail ++ r) (f (here s) (omega arith))
-        ∙ ap (runs lim side start (in_list (body (function_head declaration kind (Some name)) xs) end (here s) ∷ s)) (append_assoc z (sign g.CloseBrace c ∷ []) r)
-        ∙ a.same;
+          ap (runs lim side start s) (append_assoc (x ++ y) tail r ∙ append_assoc x y (tail ++ r))
+          ∙ declaration_read lim h q s (tail ++ r) (f (here s) (omega arith))
+          ∙ ap (runs lim side start (in_list (body (function_head declaration kind (Some name)) xs) end (here s) ∷ s)) (append_assoc z (sign g.CloseBrace c ∷ []) r)
+          ∙ a.same;
     }

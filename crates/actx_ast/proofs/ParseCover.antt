@@ -1,5 +1,5 @@
 -- Where an expression may begin, and parentheses that may hold an expression or an arrow's parameters.
-use Rattle.std.proofs.Common.{◌≡◌, ℕ, suc, ◌≤◌, List, [], ◌∷◌, ◌++◌, Bool, true, false, ◌&&◌, cond, refl, sym, ◌∙◌, ap, arith}
+use Rattle.std.proofs.Common.{◌≡◌, ℕ, ◌≤◌, List, [], ◌∷◌, ◌++◌, Bool, true, false, ◌&&◌, cond, refl, sym, ◌∙◌, ap, arith}
 use Rattle.actx_ast.specs.declared.operators.FunctionKind.{FunctionKind}
 use Rattle.actx_ast.specs.declared.side.Side.{Side}
 use Rattle.actx_ast.specs.declared.side.Side.TheVariants.{Source, Plain}
@@ -8,11 +8,11 @@ use Rattle.actx_ast.specs.declared.token.Sign.TheVariants as g
 use Rattle.actx_ast.specs.declared.token.TokenKind.{TokenKind}
 use Rattle.actx_ast.specs.declared.token.TokenKind.TheVariants as t
 use Rattle.actx_ast.specs.Grammar.{IsStatementStart, IsBodyStart, StartsStatement, StartsBody}
-use Rattle.actx_ast.specs.Lexemes.{Lexeme, sign, keyword, lexeme, kinds, SameLine}
+use Rattle.actx_ast.specs.Lexemes.{Lexeme, sign, kinds, SameLine}
 use Rattle.actx_ast.specs.Parser.{move}
 use Rattle.actx_ast.specs.ParserFunctions.{begins_operand, yield_operand, at_async, at_name}
-use Rattle.actx_ast.specs.ParserOperands.{is_built_in, is_binding, named, words_go, begin_operand, operand, at_have, at_need}
-use Rattle.actx_ast.specs.ParserState.{Limits, fits, Frame, in_paren, in_arrow, in_value, in_return, in_throw, in_yield, in_for_init, in_for_test, in_for_update, Mode, start, body_start, need, have, have_name, opened, first_name, closed_name, yield_next, async_next, async_start, arrow_body, return_next, throw_next, for_next, for_test, for_update, Move, refuse, go, go_if, here}
+use Rattle.actx_ast.specs.ParserOperands.{is_built_in, is_binding, named, words_go, operand, at_have, at_need}
+use Rattle.actx_ast.specs.ParserState.{Limits, fits, Frame, in_paren, in_arrow, in_value, in_return, in_throw, in_yield, in_for_init, in_for_test, in_for_update, Mode, start, body_start, need, have, have_name, opened, first_name, closed_name, yield_next, async_next, async_start, arrow_body, return_next, throw_next, for_next, for_test, for_update, refuse, go, here}
 use Rattle.actx_ast.specs.Tree.{Init, MaybeExpr}
 use Rattle.actx_ast.proofs.ParseBegins.{GoesOn, BeginsValue, first_operand}
 use Rattle.actx_ast.proofs.ParseLevels.{grip, binds}

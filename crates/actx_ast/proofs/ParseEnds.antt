@@ -1,5 +1,5 @@
 -- Operators behind an operand, and operands that end what is open.
-use Rattle.std.proofs.Common.{◌≡◌, ℕ, suc, max, ◌+◌, ◌≤◌, List, [], ◌∷◌, ◌++◌, Bool, true, false, ◌&&◌, Option, None, cond, refl, ◌∙◌, ap, arith}
+use Rattle.std.proofs.Common.{◌≡◌, ℕ, suc, max, ◌≤◌, List, [], ◌∷◌, Bool, true, false, cond, refl, ◌∙◌, ap, arith}
 use Rattle.actx_ast.specs.declared.operators.BinaryOp.{BinaryOp}
 use Rattle.actx_ast.specs.declared.operators.BinaryOp.TheVariants as o
 use Rattle.actx_ast.specs.declared.operators.LogicOp.{LogicOp}
@@ -13,11 +13,10 @@ use Rattle.actx_ast.specs.Forms.{level_of, sign_of}
 use Rattle.actx_ast.specs.Lexemes.{Lexeme, sign}
 use Rattle.actx_ast.specs.Parser.{move, finish}
 use Rattle.actx_ast.specs.ParserOperands.{close_paren, close_bracket, close_brace, comma, semicolon, colon, binary, logic, mixes, unmixed, tighter, choice, at_logic}
-use Rattle.actx_ast.specs.ParserState.{Limits, fits, Frame, in_binary, in_logic, in_choice, Mode, need, have, Move, refuse, go, go_if, logic_level, Settled, settled, settle}
+use Rattle.actx_ast.specs.ParserState.{Limits, fits, Frame, in_binary, in_logic, in_choice, need, have, refuse, logic_level, settle}
 use Rattle.actx_ast.specs.Tree.{Expr, Logic}
-use Rattle.actx_ast.proofs.ParseLevels.{right_level, level_in, grip, binds, level_small, level_great, grip_op}
-use Rattle.actx_ast.proofs.ParseNames.{le_true, le_false}
-use Rattle.actx_ast.proofs.ParseRuns.{runs, after, Fit, if_holds}
+use Rattle.actx_ast.proofs.ParseLevels.{level_in, grip, binds, level_small, level_great}
+use Rattle.actx_ast.proofs.ParseRuns.{runs, after, if_holds}
 use Rattle.actx_ast.proofs.ParseSteps.{swap, Ends, settle_pops, settle_stays}
 
 -- WHAT IS ENDED

@@ -1,8 +1,7 @@
 -- The words of forms are read.
-use Rattle.std.proofs.Common.{◌≡◌, ℕ, zero, suc, ◌≤◌, List, [], ◌∷◌, ◌++◌, Bool, true, false, ◌&&◌, ◌||◌, Option, Some, None, cond, refl, sym, ◌∙◌, ap, subst, arith, append_assoc}
+use Rattle.std.proofs.Common.{◌≡◌, ℕ, zero, suc, ◌≤◌, List, [], ◌∷◌, ◌++◌, Bool, true, false, ◌&&◌, ◌||◌, Some, cond, refl, sym, ◌∙◌, ap, subst, arith, append_assoc}
 use Rattle.std.proofs.lemmas.List.{append-nil}
 use Rattle.std.specs.Prelude.{nat_eq}
-use Rattle.std.proofs.lemmas.Bool.Decides.{nat_tests}
 use Rattle.actx_data.specs.declared.shown.ErrorName.TheVariants as n
 use Rattle.actx_ast.specs.declared.operators.Form.{Form}
 use Rattle.actx_ast.specs.declared.operators.Form.TheVariants as f
@@ -14,11 +13,9 @@ use Rattle.actx_ast.specs.declared.token.TokenKind.{TokenKind}
 use Rattle.actx_ast.specs.declared.token.TokenKind.TheVariants as t
 use Rattle.actx_ast.specs.Forms.{form_words, HasWords, Suits}
 use Rattle.actx_ast.specs.Lexemes.{Lexeme, kinds}
-use Rattle.actx_ast.specs.Parser.{move}
-use Rattle.actx_ast.specs.ParserFunctions.{at_words, open_form}
+use Rattle.actx_ast.specs.ParserFunctions.{at_words}
 use Rattle.actx_ast.specs.ParserOperands.{is_built_in, least_parts, most_parts, forms_of, same_token, begins_with, goes_on, form_with, has_room, words_go, operand, begin_operand, at_need}
-use Rattle.actx_ast.specs.ParserState.{Limits, at_most, fits, Frame, in_form, need, have_name, words_next, Move, go, go_if, here}
-use Rattle.actx_ast.specs.Tree.{none}
+use Rattle.actx_ast.specs.ParserState.{Limits, at_most, fits, Frame, need, have_name, words_next, go, here}
 use Rattle.actx_ast.proofs.ParseNames.{same_self, le_true, both, either_right}
 use Rattle.actx_ast.proofs.ParseRuns.{runs, after, if_holds}
 use Rattle.actx_ast.proofs.ParseSteps.{opens}
@@ -163,7 +160,7 @@ words_gone : (lim : Limits) (side : Side) (form : Form) (ws vs : List TokenKind)
     → after lim side r (words_go lim side ws s) ≡ runs lim side (words_next ws) s r
 words_gone lim side form ws vs s r h j q =
     if_holds lim side (goes_on lim (here s) ws (forms_of side)) (words_next ws) s r
-      (found_goes lim (here s) ws (form_words form) (forms_of side) form (form_is side form h) (subst (λ z. begins_with z ws ≡ true) q (begins_so ws vs (before ws vs (ap all_words q ∙ form_all_words form)))) j)
+    (found_goes lim (here s) ws (form_words form) (forms_of side) form (form_is side form h) (subst (λ z. begins_with z ws ≡ true) q (begins_so ws vs (before ws vs (ap all_words q ∙ form_all_words form)))) j)
 
 words_on : (lim : Limits) (side : Side) (form : Form) (x : List Lexeme) (ws : List TokenKind) (s : List Frame) (r : List Lexeme) → HasWords side form → (nat_eq (least_parts form) 0 || fits lim (suc (here s))) ≡ true → ws ++ kinds x ≡ form_words form
     → runs lim side (words_next ws) s (x ++ r) ≡ runs lim side (words_next (form_words form)) s r

@@ -1,13 +1,13 @@
 -- What stands before the bodies of functions is read.
-use Rattle.std.proofs.Common.{◌≡◌, ℕ, suc, ◌≤◌, List, [], ◌∷◌, ◌++◌, Bool, true, false, Option, Some, None, cond, refl, sym, ◌∙◌, ap, arith, append_assoc}
+use Rattle.std.proofs.Common.{◌≡◌, ℕ, List, ◌∷◌, ◌++◌, Bool, true, false, Option, Some, None, cond, refl, ◌∙◌, ap}
 use Rattle.actx_ast.specs.declared.operators.FunctionKind.{FunctionKind}
-use Rattle.actx_ast.specs.declared.operators.FunctionKind.TheVariants.{Normal, Arrow, Generator, Async, AsyncArrow}
+use Rattle.actx_ast.specs.declared.operators.FunctionKind.TheVariants.{Normal, Generator, Async}
 use Rattle.actx_ast.specs.declared.side.Side.{Side}
 use Rattle.actx_ast.specs.declared.side.Side.TheVariants.{Source, Plain}
 use Rattle.actx_ast.specs.declared.token.Keyword.TheVariants as k
 use Rattle.actx_ast.specs.declared.token.Sign.TheVariants as g
 use Rattle.actx_ast.specs.declared.token.TokenKind.TheVariants as t
-use Rattle.actx_ast.specs.Grammar.{StartsStatement, SpellsParams, SpellsHead, sp_normal, sp_normal_named, sp_generator, sp_generator_named, sp_async, sp_async_named}
+use Rattle.actx_ast.specs.Grammar.{SpellsParams, SpellsHead, sp_normal, sp_normal_named, sp_generator, sp_generator_named, sp_async, sp_async_named}
 use Rattle.actx_ast.specs.Lexemes.{Lexeme, sign, keyword, lexeme}
 use Rattle.actx_ast.specs.ParserOperands.{is_binding, is_source, begins_statement, has_room}
 use Rattle.actx_ast.specs.ParserState.{Limits, fits, expression, declaration, function_head, Frame, start, need, async_next, async_start, function_next, name_next, params_open, body_open, here}

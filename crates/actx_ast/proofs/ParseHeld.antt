@@ -1,21 +1,19 @@
 -- What has arguments takes one more, or ends.
-use Rattle.std.proofs.Common.{◌≡◌, ℕ, suc, max, ◌+◌, ◌≤◌, List, [], ◌∷◌, ◌++◌, Bool, true, false, ◌&&◌, Option, Some, None, refl, sym, ◌∙◌, ap, subst, arith, append_assoc}
+use Rattle.std.proofs.Common.{◌≡◌, ℕ, suc, max, ◌+◌, ◌≤◌, List, ◌∷◌, Bool, true, false, None, refl, sym, ap, arith}
 use Rattle.std.specs.Prelude.{nat_le}
 use Rattle.actx_ast.specs.declared.operators.Form.{Form}
 use Rattle.actx_ast.specs.declared.operators.Form.TheVariants.{CallWith}
 use Rattle.actx_ast.specs.declared.side.Side.{Side}
 use Rattle.actx_ast.specs.declared.token.Sign.{Sign}
 use Rattle.actx_ast.specs.declared.token.Sign.TheVariants as g
-use Rattle.actx_ast.specs.declared.token.TokenKind.TheVariants as t
 use Rattle.actx_ast.specs.Grammar.{count, Allows, with_last}
 use Rattle.actx_ast.specs.Lexemes.{Lexeme, sign}
-use Rattle.actx_ast.specs.Parser.{move}
-use Rattle.actx_ast.specs.ParserOperands.{least_parts, most_parts, suits, has_room, close_arguments}
-use Rattle.actx_ast.specs.ParserState.{Limits, at_most, takes_more, Frame, in_call, in_form, Mode, need, have, Move, go, go_if, levels}
-use Rattle.actx_ast.specs.Tree.{Expr, Call, Built, Exprs, none, also}
-use Rattle.actx_ast.proofs.ParseLevels.{level_in, binds}
+use Rattle.actx_ast.specs.ParserOperands.{most_parts, suits, close_arguments}
+use Rattle.actx_ast.specs.ParserState.{Limits, at_most, takes_more, Frame, in_call, in_form, need, have, Move, go, go_if, levels}
+use Rattle.actx_ast.specs.Tree.{Expr, Call, Built, Exprs, also}
+use Rattle.actx_ast.proofs.ParseLevels.{level_in}
 use Rattle.actx_ast.proofs.ParseNames.{allowed, allows_less, at_most_less, count_last, le_true, both}
-use Rattle.actx_ast.proofs.ParseRuns.{runs, after, Gives, Fit, fit_less, if_holds}
+use Rattle.actx_ast.proofs.ParseRuns.{runs, after, Fit, fit_less, if_holds}
 use Rattle.actx_ast.proofs.ParseSteps.{Room}
 
 pub data Holder : Type 0 where

@@ -1,5 +1,5 @@
 -- The items of a let and of a const are read.
-use Rattle.std.proofs.Common.{◌≡◌, ℕ, suc, max, ◌+◌, ◌≤◌, List, [], ◌∷◌, ◌++◌, Bool, true, false, Option, Some, None, refl, sym, ◌∙◌, ap, arith, append_assoc}
+use Rattle.std.proofs.Common.{◌≡◌, ℕ, suc, max, ◌+◌, ◌≤◌, List, [], ◌∷◌, ◌++◌, Bool, true, false, refl, ◌∙◌, ap, arith, append_assoc}
 use Rattle.actx_ast.specs.declared.side.Side.{Side}
 use Rattle.actx_ast.specs.declared.token.Sign.{Sign}
 use Rattle.actx_ast.specs.declared.token.Sign.TheVariants as g
@@ -8,13 +8,12 @@ use Rattle.actx_ast.specs.Grammar.{with_let, with_const}
 use Rattle.actx_ast.specs.Lexemes.{Lexeme, sign, lexeme}
 use Rattle.actx_ast.specs.Names.{IsBinding}
 use Rattle.actx_ast.specs.ParserOperands.{is_binding, fits_below, end_lets, end_consts}
-use Rattle.actx_ast.specs.ParserState.{Limits, fits, ItemsOf, Frame, in_let, in_const, Mode, need, have, let_name, let_behind, const_name, const_behind, Move, go, levels, here}
+use Rattle.actx_ast.specs.ParserState.{Limits, ItemsOf, Frame, in_let, in_const, need, have, let_name, let_behind, const_name, const_behind, Move, go, levels, here}
 use Rattle.actx_ast.specs.Tree.{Expr, MaybeExpr, no_expr, some_expr, LetItems, no_lets, ConstItems, no_consts}
-use Rattle.actx_ast.proofs.ParseLevels.{level_in, binds}
+use Rattle.actx_ast.proofs.ParseLevels.{binds}
 use Rattle.actx_ast.proofs.ParseNames.{binding_passes}
 use Rattle.actx_ast.proofs.ParseReads.{Operand}
 use Rattle.actx_ast.proofs.ParseRuns.{runs, after, Gives, Fit, fit_less, if_holds}
-use Rattle.actx_ast.proofs.ParseSteps.{Room}
 
 -- what stands behind an item
 abbrev pub item_sign : Bool → Sign
@@ -70,10 +69,10 @@ row_let_value lim side c l d x e y v h p of is n s w b r i f =
       reach = max n a.reach;
       within = omega (arith, a.within);
       same =
-        let_read lim side of is x c n s (sign g.Assign l ∷ (y ++ last)) h
-        ∙ if_holds lim side (fits_below lim s) need (in_let of is x n ∷ s) (y ++ last) (f (suc (here s)) (omega arith))
-        ∙ a.same
-        ∙ let_end lim side of is x e n a.reach s w b r;
+          let_read lim side of is x c n s (sign g.Assign l ∷ (y ++ last)) h
+          ∙ if_holds lim side (fits_below lim s) need (in_let of is x n ∷ s) (y ++ last) (f (suc (here s)) (omega arith))
+          ∙ a.same
+          ∙ let_end lim side of is x e n a.reach s w b r;
     }
 
 pub row_one_let : (lim : Limits) (side : Side) (d : ℕ) (x : List ℕ) (v : MaybeExpr) (y : List Lexeme) → ReadsLet lim side d x v y → ReadsLets lim side d (with_let no_lets x v) y
@@ -102,9 +101,9 @@ const_read lim side c l d is x e y h p of n s w b r i f =
       reach = max n a.reach;
       within = omega (arith, a.within);
       same =
-        if_holds lim side (is_binding side x) (const_behind of is x n) s (sign g.Assign l ∷ (y ++ last)) (binding_passes h)
-        ∙ a.same
-        ∙ const_end lim side of is x e n a.reach s w b r;
+          if_holds lim side (is_binding side x) (const_behind of is x n) s (sign g.Assign l ∷ (y ++ last)) (binding_passes h)
+          ∙ a.same
+          ∙ const_end lim side of is x e n a.reach s w b r;
     }
 
 pub row_one_const : (lim : Limits) (side : Side) (c l : Bool) (d : ℕ) (x : List ℕ) (e : Expr) (y : List Lexeme) → IsBinding side x → Operand lim side 1 d e y → ReadsConsts lim side d (with_const no_consts x e) (lexeme (t.Name x) c ∷ sign g.Assign l ∷ y)

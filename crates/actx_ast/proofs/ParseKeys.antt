@@ -1,8 +1,8 @@
 -- The keys of properties are read.
-use Rattle.std.proofs.Common.{◌≡◌, ℕ, suc, max, ◌+◌, ◌≤◌, List, [], ◌∷◌, ◌++◌, Bool, true, false, ◌&&◌, Option, Some, None, cond, refl, sym, ◌∙◌, ap, subst, arith, append_assoc}
+use Rattle.std.proofs.Common.{◌≡◌, ℕ, suc, max, ◌+◌, ◌≤◌, List, [], ◌∷◌, ◌++◌, Bool, true, false, Option, Some, None, refl, ◌∙◌, ap, arith, append_assoc}
 use Rattle.std.specs.Prelude.{codes}
 use Rattle.actx_ast.specs.declared.operators.FunctionKind.{FunctionKind}
-use Rattle.actx_ast.specs.declared.operators.FunctionKind.TheVariants.{Generator, Async}
+use Rattle.actx_ast.specs.declared.operators.FunctionKind.TheVariants.{Async}
 use Rattle.actx_ast.specs.declared.side.Side.{Side}
 use Rattle.actx_ast.specs.declared.side.Side.TheVariants.{Source, Plain}
 use Rattle.actx_ast.specs.declared.token.Keyword.{Keyword}
@@ -14,14 +14,13 @@ use Rattle.actx_ast.specs.Grammar.{SpellsParams, sp_no_params, sp_params, sp_par
 use Rattle.actx_ast.specs.Lexemes.{Lexeme, sign, SameLine}
 use Rattle.actx_ast.specs.Names.{key_of}
 use Rattle.actx_ast.specs.Parser.{move}
-use Rattle.actx_ast.specs.ParserFunctions.{at_key, at_method_key}
+use Rattle.actx_ast.specs.ParserFunctions.{at_method_key}
 use Rattle.actx_ast.specs.ParserOperands.{fits_below}
-use Rattle.actx_ast.specs.ParserState.{Limits, fits, Frame, in_computed, Mode, need, have, key_next, key_behind, key_name, key_async, method_key, method_open, go, go_if, levels, here}
+use Rattle.actx_ast.specs.ParserState.{Limits, Frame, in_computed, need, key_next, key_behind, key_name, key_async, method_key, method_open, go, levels, here}
 use Rattle.actx_ast.specs.Tree.{Expr, PropKey, Fixed, Computed, Properties}
 use Rattle.actx_ast.specs.Words.{keyword_text, word_units}
 use Rattle.actx_ast.proofs.ParseReads.{Operand}
 use Rattle.actx_ast.proofs.ParseRuns.{runs, after, Gives, Fit, fit_less, if_holds}
-use Rattle.actx_ast.proofs.ParseSteps.{Room}
 
 -- what stands behind the key of a value or of a method
 abbrev pub BehindKeyKind : TokenKind → Type 0
@@ -108,9 +107,9 @@ row_computed lim side b c d e x p ps n s r h i j f =
       reach = max n a.reach;
       within = omega (arith, a.within);
       same =
-        if_holds lim side (fits_below lim s) need (in_computed ps None n ∷ s) ((x ++ sign g.CloseBracket c ∷ []) ++ r) (f (suc (here s)) (omega arith))
-        ∙ ap (runs lim side need (in_computed ps None n ∷ s)) (append_assoc x (sign g.CloseBracket c ∷ []) r)
-        ∙ a.same;
+          if_holds lim side (fits_below lim s) need (in_computed ps None n ∷ s) ((x ++ sign g.CloseBracket c ∷ []) ++ r) (f (suc (here s)) (omega arith))
+          ∙ ap (runs lim side need (in_computed ps None n ∷ s)) (append_assoc x (sign g.CloseBracket c ∷ []) r)
+          ∙ a.same;
     }
 
 pub row_method_computed : (lim : Limits) (side : Side) (b c : Bool) (d : ℕ) (e : Expr) (x : List Lexeme) → Operand lim side 1 d e x → ReadsMethodKey lim side d (Computed e) (sign g.OpenBracket b ∷ (x ++ sign g.CloseBracket c ∷ []))
@@ -120,8 +119,8 @@ row_method_computed lim side b c d e x p ps kind n s r j f =
       reach = max n a.reach;
       within = omega (arith, a.within);
       same =
-        ap (runs lim side need (in_computed ps (Some kind) n ∷ s)) (append_assoc x (sign g.CloseBracket c ∷ []) r)
-        ∙ a.same;
+          ap (runs lim side need (in_computed ps (Some kind) n ∷ s)) (append_assoc x (sign g.CloseBracket c ∷ []) r)
+          ∙ a.same;
     }
 
 -- BEHIND ASYNC

@@ -1,18 +1,16 @@
 -- How tightly the places of operands bind, and what stands behind them.
-use Rattle.std.proofs.Common.{◌≡◌, ℕ, suc, ◌+◌, ◌≤◌, List, [], ◌∷◌, ◌++◌, Bool, true, false, Option, refl, arith}
+use Rattle.std.proofs.Common.{◌≡◌, ℕ, suc, ◌≤◌, List, [], ◌∷◌, refl, arith}
 use Rattle.actx_ast.specs.declared.operators.BinaryOp.{BinaryOp}
 use Rattle.actx_ast.specs.declared.operators.BinaryOp.TheVariants as o
 use Rattle.actx_ast.specs.declared.operators.LogicOp.{LogicOp}
 use Rattle.actx_ast.specs.declared.operators.LogicOp.TheVariants.{And, Or, Coalesce}
-use Rattle.actx_ast.specs.declared.side.Side.{Side}
 use Rattle.actx_ast.specs.declared.token.Sign.{Sign}
 use Rattle.actx_ast.specs.declared.token.Sign.TheVariants as g
 use Rattle.actx_ast.specs.declared.token.TokenKind.{TokenKind}
 use Rattle.actx_ast.specs.declared.token.TokenKind.TheVariants as t
 use Rattle.actx_ast.specs.Forms.{level_of, sign_of}
 use Rattle.actx_ast.specs.Lexemes.{Lexeme}
-use Rattle.actx_ast.specs.ParserState.{Frame, in_unary, in_await, in_binary, in_logic, in_value}
-use Rattle.actx_ast.specs.Tree.{Expr}
+use Rattle.actx_ast.specs.ParserState.{Frame, in_unary, in_await, in_binary, in_logic}
 
 -- the level of the right operand
 abbrev pub right_level : LogicOp → ℕ

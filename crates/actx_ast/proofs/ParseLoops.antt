@@ -1,28 +1,25 @@
 -- Statements of several parts are read: for, try and switch.
-use Rattle.std.proofs.Common.{◌≡◌, ℕ, suc, max, ◌+◌, ◌≤◌, List, [], ◌∷◌, ◌++◌, Bool, true, false, Option, Some, None, cond, refl, sym, ◌∙◌, ap, subst, arith, append_assoc}
+use Rattle.std.proofs.Common.{◌≡◌, ℕ, suc, max, ◌+◌, ◌≤◌, List, [], ◌∷◌, ◌++◌, Bool, true, false, Option, Some, None, refl, sym, ◌∙◌, ap, arith, append_assoc}
 use Rattle.std.specs.Prelude.{codes}
 use Rattle.actx_ast.specs.declared.side.Side.{Side}
 use Rattle.actx_ast.specs.declared.side.Side.TheVariants.{Source, Plain}
 use Rattle.actx_ast.specs.declared.token.Keyword.TheVariants as k
 use Rattle.actx_ast.specs.declared.token.Sign.TheVariants as g
 use Rattle.actx_ast.specs.declared.token.TokenKind.TheVariants as t
-use Rattle.actx_ast.specs.Grammar.{ends_open}
 use Rattle.actx_ast.specs.Lexemes.{Lexeme, sign, keyword, lexeme, kinds}
 use Rattle.actx_ast.specs.Names.{IsBinding}
 use Rattle.actx_ast.specs.Parser.{with_clause}
 use Rattle.actx_ast.specs.ParserOperands.{is_binding, fits_below}
-use Rattle.actx_ast.specs.ParserState.{Limits, fits, of_for, tried, caught, finally, clause_of, Frame, in_for_init, in_for_test, in_for_update, in_for_over, in_switch, for_body, for_of_body, in_list, Mode, start, body_start, have_stmt, need, have, let_name, let_behind, const_name, const_behind, for_open, for_next, for_test, for_update, try_open, catch_next, catch_open, catch_close, catch_block, finally_next, finally_open, switch_open, clause_next, go, levels, here}
+use Rattle.actx_ast.specs.ParserState.{Limits, fits, of_for, tried, caught, finally, clause_of, Frame, in_for_init, in_for_test, in_for_update, in_for_over, in_switch, for_body, for_of_body, in_list, start, body_start, have_stmt, need, let_behind, const_behind, for_open, for_next, for_test, for_update, try_open, catch_next, catch_open, catch_close, catch_block, finally_next, finally_open, switch_open, clause_next, levels, here}
 use Rattle.actx_ast.specs.Tree.{Expr, MaybeExpr, no_expr, some_expr, LetItems, no_lets, ConstItems, no_consts, Init, init_nothing, init_let, init_const, init_value, Stmt, For, ForOf, Try, Switch, Catch, no_catch, catch, no_last, last, Clauses, no_clauses, clause, Stmts, end}
 use Rattle.actx_ast.proofs.ParseBegins.{BeginsValue}
 use Rattle.actx_ast.proofs.ParseBehind.{closes_for, closes_for_of, closes, finally_absent}
 use Rattle.actx_ast.proofs.ParseCover.{init_begins, test_begins, update_begins}
 use Rattle.actx_ast.proofs.ParseItems.{ReadsLets, ReadsConsts}
-use Rattle.actx_ast.proofs.ParseLevels.{level_in, binds}
 use Rattle.actx_ast.proofs.ParseNames.{binding_passes}
 use Rattle.actx_ast.proofs.ParseReads.{Operand, Behind, ReadsStmt, ReadsStmts}
-use Rattle.actx_ast.proofs.ParseRuns.{runs, after, Gives, Fit, fit_less, if_holds}
+use Rattle.actx_ast.proofs.ParseRuns.{runs, Gives, Fit, fit_less, if_holds}
 use Rattle.actx_ast.proofs.ParseStatements.{ReadsBlock}
-use Rattle.actx_ast.proofs.ParseSteps.{Room}
 
 -- FOR
 abbrev pub ReadsInit : Limits → Side → ℕ → Init → List Lexeme → Type 0
@@ -79,15 +76,15 @@ row_for lim side b c l m o d i test update st w x y z v p1 p2 p3 p4 s r h f =
       reach = max a3.reach a4.reach;
       within = omega (arith, a3.within, a4.within);
       same =
-        if_holds lim side (fits_below lim s) for_open s (sign g.OpenParen c ∷ ((w ++ t1) ++ r)) (f (suc (here s)) (omega arith))
-        ∙ ap (runs lim side for_next s) (append_assoc w t1 r)
-        ∙ ap (λ u. runs lim side for_next s (w ++ sign g.Semicolon l ∷ u)) (append_assoc x t2 r)
-        ∙ ap (λ u. runs lim side for_next s (w ++ sign g.Semicolon l ∷ (x ++ sign g.Semicolon m ∷ u))) (append_assoc y t3 r)
-        ∙ a1.same
-        ∙ a2.same
-        ∙ a3.same
-        ∙ a4.same
-        ∙ closes (closes_for i test update st a3.reach a4.reach) lim side s r;
+          if_holds lim side (fits_below lim s) for_open s (sign g.OpenParen c ∷ ((w ++ t1) ++ r)) (f (suc (here s)) (omega arith))
+          ∙ ap (runs lim side for_next s) (append_assoc w t1 r)
+          ∙ ap (λ u. runs lim side for_next s (w ++ sign g.Semicolon l ∷ u)) (append_assoc x t2 r)
+          ∙ ap (λ u. runs lim side for_next s (w ++ sign g.Semicolon l ∷ (x ++ sign g.Semicolon m ∷ u))) (append_assoc y t3 r)
+          ∙ a1.same
+          ∙ a2.same
+          ∙ a3.same
+          ∙ a4.same
+          ∙ closes (closes_for i test update st a3.reach a4.reach) lim side s r;
     }
 
 pub row_for_of_let : (lim : Limits) (side : Side) (b c l m o n : Bool) (d : ℕ) (x : List ℕ) (e : Expr) (st : Stmt) (y z : List Lexeme) → 1 ≤ d → side ≡ Source → IsBinding side x → Operand lim side 1 d e y → ReadsStmt lim side body_start d st z
@@ -99,12 +96,12 @@ row_for_of_let lim Source b c l m o n d x e st y z v q i p1 p2 s r h f =
       reach = max a1.reach a2.reach;
       within = omega (arith, a1.within, a2.within);
       same =
-        if_holds lim Source (fits_below lim s) for_open s (sign g.OpenParen c ∷ keyword k.Let l ∷ lexeme (t.Name x) m ∷ lexeme (t.Name (codes "of")) o ∷ ((y ++ sign g.CloseParen n ∷ z) ++ r)) (f (suc (here s)) (omega arith))
-        ∙ if_holds lim Source (is_binding Source x) (let_behind of_for no_lets x (here s)) s (lexeme (t.Name (codes "of")) o ∷ ((y ++ sign g.CloseParen n ∷ z) ++ r)) (binding_passes i)
-        ∙ ap (runs lim Source need (in_for_over false x ∷ s)) (append_assoc y (sign g.CloseParen n ∷ z) r)
-        ∙ a1.same
-        ∙ a2.same
-        ∙ closes (closes_for_of false x e st a1.reach a2.reach) lim Source s r;
+          if_holds lim Source (fits_below lim s) for_open s (sign g.OpenParen c ∷ keyword k.Let l ∷ lexeme (t.Name x) m ∷ lexeme (t.Name (codes "of")) o ∷ ((y ++ sign g.CloseParen n ∷ z) ++ r)) (f (suc (here s)) (omega arith))
+          ∙ if_holds lim Source (is_binding Source x) (let_behind of_for no_lets x (here s)) s (lexeme (t.Name (codes "of")) o ∷ ((y ++ sign g.CloseParen n ∷ z) ++ r)) (binding_passes i)
+          ∙ ap (runs lim Source need (in_for_over false x ∷ s)) (append_assoc y (sign g.CloseParen n ∷ z) r)
+          ∙ a1.same
+          ∙ a2.same
+          ∙ closes (closes_for_of false x e st a1.reach a2.reach) lim Source s r;
     }
 row_for_of_let lim Plain b c l m o n d x e st y z v q i p1 p2 s r h f = absurd (cc)
 
@@ -117,12 +114,12 @@ row_for_of_const lim Source b c l m o n d x e st y z v q i p1 p2 s r h f =
       reach = max a1.reach a2.reach;
       within = omega (arith, a1.within, a2.within);
       same =
-        if_holds lim Source (fits_below lim s) for_open s (sign g.OpenParen c ∷ keyword k.Const l ∷ lexeme (t.Name x) m ∷ lexeme (t.Name (codes "of")) o ∷ ((y ++ sign g.CloseParen n ∷ z) ++ r)) (f (suc (here s)) (omega arith))
-        ∙ if_holds lim Source (is_binding Source x) (const_behind of_for no_consts x (here s)) s (lexeme (t.Name (codes "of")) o ∷ ((y ++ sign g.CloseParen n ∷ z) ++ r)) (binding_passes i)
-        ∙ ap (runs lim Source need (in_for_over true x ∷ s)) (append_assoc y (sign g.CloseParen n ∷ z) r)
-        ∙ a1.same
-        ∙ a2.same
-        ∙ closes (closes_for_of true x e st a1.reach a2.reach) lim Source s r;
+          if_holds lim Source (fits_below lim s) for_open s (sign g.OpenParen c ∷ keyword k.Const l ∷ lexeme (t.Name x) m ∷ lexeme (t.Name (codes "of")) o ∷ ((y ++ sign g.CloseParen n ∷ z) ++ r)) (f (suc (here s)) (omega arith))
+          ∙ if_holds lim Source (is_binding Source x) (const_behind of_for no_consts x (here s)) s (lexeme (t.Name (codes "of")) o ∷ ((y ++ sign g.CloseParen n ∷ z) ++ r)) (binding_passes i)
+          ∙ ap (runs lim Source need (in_for_over true x ∷ s)) (append_assoc y (sign g.CloseParen n ∷ z) r)
+          ∙ a1.same
+          ∙ a2.same
+          ∙ closes (closes_for_of true x e st a1.reach a2.reach) lim Source s r;
     }
 row_for_of_const lim Plain b c l m o n d x e st y z v q i p1 p2 s r h f = absurd (cc)
 
@@ -155,10 +152,10 @@ row_try_catch lim side b d bs c x y p q s r h f =
       reach = a2.reach;
       within = omega (arith, a2.within);
       same =
-        ap (λ z. runs lim side start s (keyword k.Try b ∷ z)) (append_assoc x y r)
-        ∙ a1.same
-        ∙ a2.same
-        ∙ finally_absent lim side bs c a2.reach s r false h;
+          ap (λ z. runs lim side start s (keyword k.Try b ∷ z)) (append_assoc x y r)
+          ∙ a1.same
+          ∙ a2.same
+          ∙ finally_absent lim side bs c a2.reach s r false h;
     }
 
 pub row_try_finally : (lim : Limits) (side : Side) (b c : Bool) (d : ℕ) (bs ls : Stmts) (x y : List Lexeme) → ReadsBlock lim side d bs x → ReadsBlock lim side d ls y → ReadsStmt lim side start (suc d) (Try bs no_catch (last ls)) (keyword k.Try b ∷ (x ++ keyword k.Finally c ∷ y))
@@ -170,9 +167,9 @@ row_try_finally lim side b c d bs ls x y p q s r h f =
       reach = a2.reach;
       within = omega (arith, a2.within);
       same =
-        ap (λ z. runs lim side start s (keyword k.Try b ∷ z)) (append_assoc x (keyword k.Finally c ∷ y) r)
-        ∙ a1.same
-        ∙ a2.same;
+          ap (λ z. runs lim side start s (keyword k.Try b ∷ z)) (append_assoc x (keyword k.Finally c ∷ y) r)
+          ∙ a1.same
+          ∙ a2.same;
     }
 
 pub row_try_both : (lim : Limits) (side : Side) (b l : Bool) (d : ℕ) (bs ls : Stmts) (c : Catch) (x y z : List Lexeme) → ReadsBlock lim side d bs x → ReadsCatch lim side d c y → ReadsBlock lim side d ls z → ReadsStmt lim side start (suc d) (Try bs c (last ls)) (keyword k.Try b ∷ (x ++ y ++ keyword k.Finally l ∷ z))
@@ -186,10 +183,10 @@ row_try_both lim side b l d bs ls c x y z p q o s r h f =
       reach = a3.reach;
       within = omega (arith, a3.within);
       same =
-        ap (λ u. runs lim side start s (keyword k.Try b ∷ u)) (append_assoc (x ++ y) tail r ∙ append_assoc x y (tail ++ r))
-        ∙ a1.same
-        ∙ a2.same
-        ∙ a3.same;
+          ap (λ u. runs lim side start s (keyword k.Try b ∷ u)) (append_assoc (x ++ y) tail r ∙ append_assoc x y (tail ++ r))
+          ∙ a1.same
+          ∙ a2.same
+          ∙ a3.same;
     }
 
 -- SWITCH
@@ -234,11 +231,11 @@ row_case lim side c l m d number ss cs x y v w p q e ds n s b r h f =
       reach = a2.reach;
       within = a2.within;
       same =
-        ap (runs lim side start (in_list (clause_of e ds (Some number)) end n ∷ s)) (append_assoc x y last)
-        ∙ a1.same
-        ∙ w e ds a1.reach s b r
-        ∙ a2.same
-        ∙ ap (λ z. runs lim side (have_stmt (Switch e z) a2.reach) s r) (chained_last ds (Some number) ss cs);
+          ap (runs lim side start (in_list (clause_of e ds (Some number)) end n ∷ s)) (append_assoc x y last)
+          ∙ a1.same
+          ∙ w e ds a1.reach s b r
+          ∙ a2.same
+          ∙ ap (λ z. runs lim side (have_stmt (Switch e z) a2.reach) s r) (chained_last ds (Some number) ss cs);
     }
 
 pub row_switch : (lim : Limits) (side : Side) (b c l m o : Bool) (d : ℕ) (e : Expr) (cs : Clauses) (x y : List Lexeme) → 1 ≤ d → side ≡ Plain → Operand lim side 1 d e x → ReadsClauses lim side d cs y
@@ -251,10 +248,10 @@ row_switch lim Plain b c l m o d e cs x y v i p q s r h f =
       reach = a2.reach;
       within = omega (arith, a2.within);
       same =
-        if_holds lim Plain (fits_below lim s) switch_open s (sign g.OpenParen c ∷ ((x ++ tail) ++ r)) (f (suc (here s)) (omega arith))
-        ∙ ap (runs lim Plain need (in_switch ∷ s)) (append_assoc x tail r)
-        ∙ a1.same
-        ∙ ap (runs lim Plain (clause_next e no_clauses a1.reach) s) (append_assoc y (sign g.CloseBrace o ∷ []) r)
-        ∙ a2.same;
+          if_holds lim Plain (fits_below lim s) switch_open s (sign g.OpenParen c ∷ ((x ++ tail) ++ r)) (f (suc (here s)) (omega arith))
+          ∙ ap (runs lim Plain need (in_switch ∷ s)) (append_assoc x tail r)
+          ∙ a1.same
+          ∙ ap (runs lim Plain (clause_next e no_clauses a1.reach) s) (append_assoc y (sign g.CloseBrace o ∷ []) r)
+          ∙ a2.same;
     }
 row_switch lim Source b c l m o d e cs x y v i p q s r h f = absurd (cc)

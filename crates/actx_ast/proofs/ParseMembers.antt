@@ -1,5 +1,5 @@
 -- Members, calls and forms are read.
-use Rattle.std.proofs.Common.{◌≡◌, ℕ, suc, max, ◌+◌, ◌≤◌, List, [], ◌∷◌, ◌++◌, Bool, true, false, ◌&&◌, ◌||◌, Option, Some, None, cond, refl, sym, ◌∙◌, ap, arith, append_assoc}
+use Rattle.std.proofs.Common.{◌≡◌, ℕ, suc, max, ◌≤◌, List, [], ◌∷◌, ◌++◌, Bool, true, false, Some, None, cond, refl, ◌∙◌, ap, arith, append_assoc}
 use Rattle.std.specs.Prelude.{codes, nat_le}
 use Rattle.actx_ast.specs.declared.operators.Form.{Form}
 use Rattle.actx_ast.specs.declared.operators.Form.TheVariants.{CallWith}
@@ -12,17 +12,17 @@ use Rattle.actx_ast.specs.Grammar.{count, Allows, with_last}
 use Rattle.actx_ast.specs.Lexemes.{Lexeme, sign, lexeme, kinds}
 use Rattle.actx_ast.specs.Names.{word_of, IsKey}
 use Rattle.actx_ast.specs.ParserFunctions.{member_word, open_form}
-use Rattle.actx_ast.specs.ParserOperands.{same_word, takes_whole, least_parts, most_parts, forms_of, suits}
-use Rattle.actx_ast.specs.ParserState.{Limits, at_most, fits, Frame, in_call, in_form, in_set, in_index, Mode, need, have, have_member, member_name, call_open, words_next, go, go_if, levels, here}
+use Rattle.actx_ast.specs.ParserOperands.{takes_whole, least_parts, most_parts}
+use Rattle.actx_ast.specs.ParserState.{Limits, at_most, fits, Frame, in_call, in_set, in_index, need, have, have_member, member_name, call_open, words_next, go, go_if, here}
 use Rattle.actx_ast.specs.Tree.{Expr, SetMember, Member, Call, Built, Exprs, none, also, Key, Dot, Index}
 use Rattle.actx_ast.proofs.ParseEnds.{ends}
 use Rattle.actx_ast.proofs.ParseForms.{form_is, words_read, least_most, parts_fit}
-use Rattle.actx_ast.proofs.ParseHeld.{Holder, of_call, of_form, of_call_with, holds, made, Takes, Closes, takes_less, held_levels, held_level, held_room, list_sign, list_go, held_next, held_closes}
-use Rattle.actx_ast.proofs.ParseLevels.{level_in, binds, grip_sign}
+use Rattle.actx_ast.proofs.ParseHeld.{of_call, of_form, of_call_with, holds, Takes, takes_less, held_levels, held_level, held_room, list_sign, held_next, held_closes}
+use Rattle.actx_ast.proofs.ParseLevels.{binds}
 use Rattle.actx_ast.proofs.ParseNames.{differs, le_true, both, count_last}
 use Rattle.actx_ast.proofs.ParseReads.{Operand, ReadsKey, ReadsArguments, ReadsList, left}
-use Rattle.actx_ast.proofs.ParseRuns.{runs, after, Gives, Fit, fit_less, if_holds}
-use Rattle.actx_ast.proofs.ParseSteps.{Room, whole_taken, member_have, ends_set}
+use Rattle.actx_ast.proofs.ParseRuns.{runs, after, fit_less, if_holds}
+use Rattle.actx_ast.proofs.ParseSteps.{whole_taken, member_have, ends_set}
 
 -- KEYS
 dot_word : (side : Side) (e : Expr) (x : List ℕ) (n : ℕ) (s : List Frame) → IsKey side x → member_word side e (Some x) n s ≡ go (have_member e (Dot x) n) s
@@ -35,9 +35,9 @@ row_dot lim side b w x d q i e n s r h f =
       reach = suc n;
       within = omega arith;
       same =
-        if_holds lim side (fits lim (suc n)) (member_name e (suc n)) s (w ∷ r) (f (suc n) (omega arith))
-        ∙ ap (λ o. after lim side r (member_word side e o (suc n) s)) q
-        ∙ ap (after lim side r) (dot_word side e x (suc n) s i);
+          if_holds lim side (fits lim (suc n)) (member_name e (suc n)) s (w ∷ r) (f (suc n) (omega arith))
+          ∙ ap (λ o. after lim side r (member_word side e o (suc n) s)) q
+          ∙ ap (after lim side r) (dot_word side e x (suc n) s i);
     }
 
 pub row_index : (lim : Limits) (side : Side) (b c : Bool) (d : ℕ) (i : Expr) (x : List Lexeme) → Operand lim side 1 d i x → ReadsKey lim side d (Index i) (sign g.OpenBracket b ∷ (x ++ sign g.CloseBracket c ∷ []))
@@ -47,9 +47,9 @@ row_index lim side b c d i x p e n s r h f =
       reach = max (suc n) a.reach;
       within = omega (arith, a.within);
       same =
-        if_holds lim side (fits lim (suc n)) need (in_index e (suc n) ∷ s) ((x ++ sign g.CloseBracket c ∷ []) ++ r) (f (suc n) (omega arith))
-        ∙ ap (runs lim side need (in_index e (suc n) ∷ s)) (append_assoc x (sign g.CloseBracket c ∷ []) r)
-        ∙ a.same;
+          if_holds lim side (fits lim (suc n)) need (in_index e (suc n) ∷ s) ((x ++ sign g.CloseBracket c ∷ []) ++ r) (f (suc n) (omega arith))
+          ∙ ap (runs lim side need (in_index e (suc n) ∷ s)) (append_assoc x (sign g.CloseBracket c ∷ []) r)
+          ∙ a.same;
     }
 
 -- ARGUMENTS
@@ -75,10 +75,10 @@ row_more lim side c d es e x y ps p more b h n s r k i f =
       reach = max a1.reach a2.reach;
       within = omega (arith, a1.within, a2.within, held_levels h es a1.reach s);
       same =
-        ap (runs lim side need (holds h none n ∷ s)) (append_assoc x (sign g.Comma c ∷ y) (sign (list_sign more) b ∷ r))
-        ∙ a1.same
-        ∙ a2.same
-        ∙ held_next lim side more b h es e a1.reach a2.reach s r;
+          ap (runs lim side need (holds h none n ∷ s)) (append_assoc x (sign g.Comma c ∷ y) (sign (list_sign more) b ∷ r))
+          ∙ a1.same
+          ∙ a2.same
+          ∙ held_next lim side more b h es e a1.reach a2.reach s r;
     }
 
 pub row_no_arguments : (lim : Limits) (side : Side) (b c : Bool) (d : ℕ) → ReadsArguments lim side d none (sign g.OpenParen b ∷ sign g.CloseParen c ∷ [])
@@ -96,10 +96,10 @@ row_arguments lim side b c d es x p m h n s r on k j i f =
       reach = a.reach;
       within = a.within;
       same =
-        ap (after lim side ((x ++ sign g.CloseParen c ∷ []) ++ r)) (on b)
-        ∙ ap (runs lim side need (holds h none n ∷ s)) (append_assoc x (sign g.CloseParen c ∷ []) r)
-        ∙ a.same
-        ∙ held_closes lim side h es a.reach s r j;
+          ap (after lim side ((x ++ sign g.CloseParen c ∷ []) ++ r)) (on b)
+          ∙ ap (runs lim side need (holds h none n ∷ s)) (append_assoc x (sign g.CloseParen c ∷ []) r)
+          ∙ a.same
+          ∙ held_closes lim side h es a.reach s r j;
     }
 
 pub row_arguments_comma : (lim : Limits) (side : Side) (b c w : Bool) (d : ℕ) (es : Exprs) (x : List Lexeme) → ReadsList lim side d es x → ReadsArguments lim side d es (sign g.OpenParen b ∷ (x ++ sign g.Comma c ∷ sign g.CloseParen w ∷ []))
@@ -109,10 +109,10 @@ row_arguments_comma lim side b c w d es x p m h n s r on k j i f =
       reach = a.reach;
       within = a.within;
       same =
-        ap (after lim side ((x ++ sign g.Comma c ∷ sign g.CloseParen w ∷ []) ++ r)) (on b)
-        ∙ ap (runs lim side need (holds h none n ∷ s)) (append_assoc x (sign g.Comma c ∷ sign g.CloseParen w ∷ []) r)
-        ∙ a.same
-        ∙ held_closes lim side h es a.reach s r j;
+          ap (after lim side ((x ++ sign g.Comma c ∷ sign g.CloseParen w ∷ []) ++ r)) (on b)
+          ∙ ap (runs lim side need (holds h none n ∷ s)) (append_assoc x (sign g.Comma c ∷ sign g.CloseParen w ∷ []) r)
+          ∙ a.same
+          ∙ held_closes lim side h es a.reach s r j;
     }
 
 -- MEMBERS
@@ -124,10 +124,10 @@ row_member lim side l d e key x y h v p q s r i j m =
       reach = c.reach;
       within = omega (arith, c.within);
       same =
-        ap (runs lim side need s) (append_assoc x y r)
-        ∙ a.same
-        ∙ c.same
-        ∙ member_have lim side e key c.reach s r (omega arith);
+          ap (runs lim side need s) (append_assoc x y r)
+          ∙ a.same
+          ∙ c.same
+          ∙ member_have lim side e key c.reach s r (omega arith);
     }
 
 pub row_set_member : (lim : Limits) (side : Side) (b : Bool) (l d : ℕ) (e w : Expr) (key : Key) (x y z : List Lexeme) → l ≤ 1 → ((r : List Lexeme) → binds (y ++ r) ≤ 11) → Operand lim side 11 d e x → ReadsKey lim side d key y → Operand lim side 1 d w z → Operand lim side l (suc d) (SetMember e key w) (x ++ y ++ sign g.Assign b ∷ z)
@@ -140,12 +140,12 @@ row_set_member lim side b l d e w key x y z h v p q o s r i j m =
       reach = max a2.reach a3.reach;
       within = omega (arith, a2.within, a3.within);
       same =
-        ap (runs lim side need s) (append_assoc (x ++ y) tail r ∙ append_assoc x y (tail ++ r))
-        ∙ a1.same
-        ∙ a2.same
-        ∙ if_holds lim side (takes_whole s) need (in_set e key a2.reach ∷ s) (z ++ r) (whole_taken s (omega arith))
-        ∙ a3.same
-        ∙ ends (ends_set e key w a2.reach a3.reach) lim side s r (omega arith) (omega arith);
+          ap (runs lim side need s) (append_assoc (x ++ y) tail r ∙ append_assoc x y (tail ++ r))
+          ∙ a1.same
+          ∙ a2.same
+          ∙ if_holds lim side (takes_whole s) need (in_set e key a2.reach ∷ s) (z ++ r) (whole_taken s (omega arith))
+          ∙ a3.same
+          ∙ ends (ends_set e key w a2.reach a3.reach) lim side s r (omega arith) (omega arith);
     }
 
 -- CALLS
@@ -168,9 +168,9 @@ row_form lim side form l d es x y h w q u k g p s r i j m =
       reach = c.reach;
       within = omega (arith, c.within);
       same =
-        ap (runs lim side need s) (append_assoc x y r)
-        ∙ words_read lim side form x s (y ++ r) w (parts_fit lim (least_parts form) (count es) (here s) bounds.0 (λ a. m.deep (suc (here s)) (omega (arith, g a)))) q (m.deep (here s) (omega arith)) m.more
-        ∙ c.same;
+          ap (runs lim side need s) (append_assoc x y r)
+          ∙ words_read lim side form x s (y ++ r) w (parts_fit lim (least_parts form) (count es) (here s) bounds.0 (λ a. m.deep (suc (here s)) (omega (arith, g a)))) q (m.deep (here s) (omega arith)) m.more
+          ∙ c.same;
     }
 
 pub row_call_with : (lim : Limits) (side : Side) (b c : Bool) (l d : ℕ) (e : Expr) (es : Exprs) (x y : List Lexeme) → side ≡ Plain → lim.most ≡ None → l ≤ 11 → Operand lim side 11 d e x → ReadsArguments lim side d es y → Operand lim side l (suc d) (Built CallWith (also e es)) (x ++ sign g.Dot b ∷ lexeme (t.Name (codes "call")) c ∷ y)
@@ -183,9 +183,9 @@ row_call_with lim Plain b c l d e es x y o k h p q s r i j m =
       reach = a2.reach;
       within = omega (arith, a2.within);
       same =
-        ap (runs lim Plain need s) (append_assoc x tail r)
-        ∙ a1.same
-        ∙ if_holds lim Plain (fits lim n) (member_name e n) s (lexeme (t.Name (codes "call")) c ∷ (y ++ r)) (m.deep n (omega (arith, a1.within)))
-        ∙ a2.same;
+          ap (runs lim Plain need s) (append_assoc x tail r)
+          ∙ a1.same
+          ∙ if_holds lim Plain (fits lim n) (member_name e n) s (lexeme (t.Name (codes "call")) c ∷ (y ++ r)) (m.deep n (omega (arith, a1.within)))
+          ∙ a2.same;
     }
 row_call_with lim Source b c l d e es x y o k h p q s r i j m = absurd (cc)

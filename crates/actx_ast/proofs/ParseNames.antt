@@ -1,15 +1,14 @@
 -- The parser's tests of names and limits pass where the grammar says so.
-use Rattle.std.proofs.Common.{◌≡◌, ℕ, suc, ◌≤◌, ◌<◌, List, [], ◌∷◌, Bool, true, false, ◌&&◌, ◌||◌, Option, Some, None, cond, refl, sym, ◌∙◌, ap, arith}
-use Rattle.std.proofs.lemmas.Bool.Decides.{nat_tests, Decides-by_or, Decides-like, not_from_Decides}
+use Rattle.std.proofs.Common.{◌≡◌, ℕ, suc, ◌≤◌, ◌<◌, List, Bool, true, false, ◌&&◌, ◌||◌, Option, Some, None, cond, refl, sym, ◌∙◌, ap, arith}
+use Rattle.std.proofs.lemmas.Bool.Decides.{nat_tests, Decides-by_or, Decides-like}
 use Rattle.std.specs.Prelude.{Contains, codes, nat_le}
 use Rattle.std.specs.Bool.{Decides}
 use Rattle.std.proofs.lemmas.List.Elements.{Decides-contains}
 use Rattle.std.proofs.lemmas.Slice.Eq.{bytes_eq-Decides}
-use Rattle.actx_ast.specs.declared.operators.Form.{Form}
 use Rattle.actx_ast.specs.declared.side.Side.{Side}
 use Rattle.actx_ast.specs.declared.side.Side.TheVariants.{Source, Plain}
 use Rattle.actx_ast.specs.Grammar.{Allows, count, with_last}
-use Rattle.actx_ast.specs.Names.{built_in, IsBinding, IsReference, IsKey}
+use Rattle.actx_ast.specs.Names.{built_in, IsBinding, IsReference}
 use Rattle.actx_ast.specs.ParserOperands.{same_word, is_one_of, is_built_in, is_binding, is_source, named}
 use Rattle.actx_ast.specs.ParserState.{at_most}
 use Rattle.actx_ast.specs.Tree.{Expr, Undefined, Named, Exprs, none, also}

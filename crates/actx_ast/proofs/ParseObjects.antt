@@ -1,30 +1,28 @@
 -- Object literals are read.
-use Rattle.std.proofs.Common.{◌≡◌, ℕ, suc, max, ◌+◌, ◌≤◌, List, [], ◌∷◌, ◌++◌, Bool, true, false, ◌&&◌, Option, Some, None, cond, refl, sym, ◌∙◌, ap, subst, arith, append_assoc}
+use Rattle.std.proofs.Common.{◌≡◌, ℕ, suc, max, ◌+◌, ◌≤◌, List, [], ◌∷◌, ◌++◌, Bool, true, false, ◌&&◌, Option, Some, None, cond, refl, ◌∙◌, ap, arith, append_assoc}
 use Rattle.std.specs.Prelude.{codes}
 use Rattle.actx_ast.specs.declared.operators.FunctionKind.{FunctionKind}
 use Rattle.actx_ast.specs.declared.operators.FunctionKind.TheVariants.{Normal, Generator, Async}
 use Rattle.actx_ast.specs.declared.side.Side.{Side}
 use Rattle.actx_ast.specs.declared.side.Side.TheVariants.{Source, Plain}
-use Rattle.actx_ast.specs.declared.token.Keyword.TheVariants as k
 use Rattle.actx_ast.specs.declared.token.Sign.{Sign}
 use Rattle.actx_ast.specs.declared.token.Sign.TheVariants as g
-use Rattle.actx_ast.specs.declared.token.TokenKind.{TokenKind}
 use Rattle.actx_ast.specs.declared.token.TokenKind.TheVariants as t
-use Rattle.actx_ast.specs.Grammar.{StartsStatement, KeyFollows, with_property, SpellsParams, SpellsMethodHead, sp_method_head, sp_generator_head, sp_async_head}
-use Rattle.actx_ast.specs.Lexemes.{Lexeme, sign, keyword, lexeme, SameLine}
+use Rattle.actx_ast.specs.Grammar.{KeyFollows, with_property, SpellsParams, SpellsMethodHead, sp_method_head, sp_generator_head, sp_async_head}
+use Rattle.actx_ast.specs.Lexemes.{Lexeme, sign, lexeme, SameLine}
 use Rattle.actx_ast.specs.Names.{key_of, IsReference}
 use Rattle.actx_ast.specs.ParserFunctions.{alone}
-use Rattle.actx_ast.specs.ParserOperands.{is_binding, is_source, named, begins_statement, fits_below}
-use Rattle.actx_ast.specs.ParserState.{Limits, fits, method, function_head, body, Frame, in_property, in_list, Mode, start, need, have, body_open, key_next, key_behind, key_name, key_async, key_end, method_key, method_open, go, go_if, levels, here}
+use Rattle.actx_ast.specs.ParserOperands.{is_binding, is_source, begins_statement, fits_below}
+use Rattle.actx_ast.specs.ParserState.{Limits, method, function_head, body, Frame, in_property, in_list, start, have, body_open, key_next, key_behind, key_name, key_async, key_end, method_key, method_open, levels, here}
 use Rattle.actx_ast.specs.Tree.{Expr, Named, Undefined, Object, Function, PropKey, Fixed, Properties, no_properties, code, Stmts, end}
 use Rattle.actx_ast.specs.Words.{word_units}
-use Rattle.actx_ast.proofs.ParseKeys.{BehindKey, ReadsPropKey, ReadsMethodKey, params_behind}
-use Rattle.actx_ast.proofs.ParseLevels.{level_in, binds}
+use Rattle.actx_ast.proofs.ParseKeys.{ReadsPropKey, ReadsMethodKey, params_behind}
+use Rattle.actx_ast.proofs.ParseLevels.{binds}
 use Rattle.actx_ast.proofs.ParseNames.{reference_free, free_binding, reference_named, undefined_free, source_passes, both}
 use Rattle.actx_ast.proofs.ParseParams.{params_read}
-use Rattle.actx_ast.proofs.ParseReads.{Operand, ReadsStmts, joined}
+use Rattle.actx_ast.proofs.ParseReads.{Operand, ReadsStmts}
 use Rattle.actx_ast.proofs.ParseRuns.{runs, after, Gives, Fit, fit_less, if_holds}
-use Rattle.actx_ast.proofs.ParseSteps.{Room, Starts, inside, opens}
+use Rattle.actx_ast.proofs.ParseSteps.{inside, opens}
 
 -- what stands behind a property
 abbrev pub property_sign : Bool → Sign
@@ -61,10 +59,10 @@ row_key_value lim side c d key e x y v q p ps n s w b r i f =
       reach = max a1.reach a2.reach;
       within = omega (arith, a1.within, a2.within);
       same =
-        ap (runs lim side (key_next ps n) s) (append_assoc x (sign g.Colon c ∷ y) last)
-        ∙ a1.same
-        ∙ a2.same
-        ∙ value_end lim side ps key e a1.reach a2.reach s w b r;
+          ap (runs lim side (key_next ps n) s) (append_assoc x (sign g.Colon c ∷ y) last)
+          ∙ a1.same
+          ∙ a2.same
+          ∙ value_end lim side ps key e a1.reach a2.reach s w b r;
     }
 
 -- NAMES ALONE
@@ -80,10 +78,10 @@ row_name_alone lim side c d x u q h ps n s w b r i f =
       reach = max n (suc (here s));
       within = omega arith;
       same =
-        if_holds lim side (fits_below lim s) (key_name ps x n) s (sign (property_sign w) b ∷ r) (f (suc (here s)) (omega arith))
-        ∙ alone_end lim side ps x n s w b r (free_binding side x (reference_free h))
-        ∙ ap (λ z. runs lim side (key_end (with_property ps (Fixed (word_units x)) z) (max n (suc (here s)))) s (sign (property_sign w) b ∷ r)) (reference_named h)
-        ∙ ap (λ z. runs lim side (key_end (with_property ps (Fixed z) (Named x)) (max n (suc (here s)))) s (sign (property_sign w) b ∷ r)) e;
+          if_holds lim side (fits_below lim s) (key_name ps x n) s (sign (property_sign w) b ∷ r) (f (suc (here s)) (omega arith))
+          ∙ alone_end lim side ps x n s w b r (free_binding side x (reference_free h))
+          ∙ ap (λ z. runs lim side (key_end (with_property ps (Fixed (word_units x)) z) (max n (suc (here s)))) s (sign (property_sign w) b ∷ r)) (reference_named h)
+          ∙ ap (λ z. runs lim side (key_end (with_property ps (Fixed z) (Named x)) (max n (suc (here s)))) s (sign (property_sign w) b ∷ r)) e;
     }
 
 pub row_undefined_alone : (lim : Limits) (side : Side) (c : Bool) (d : ℕ) → ReadsProperty lim side (suc d) (Fixed (codes "undefined")) Undefined (lexeme (t.Name (codes "undefined")) c ∷ [])
@@ -92,8 +90,8 @@ row_undefined_alone lim side c d ps n s w b r i f =
       reach = max n (suc (here s));
       within = omega arith;
       same =
-        if_holds lim side (fits_below lim s) (key_name ps (codes "undefined") n) s (sign (property_sign w) b ∷ r) (f (suc (here s)) (omega arith))
-        ∙ alone_end lim side ps (codes "undefined") n s w b r (free_binding side (codes "undefined") (undefined_free side));
+          if_holds lim side (fits_below lim s) (key_name ps (codes "undefined") n) s (sign (property_sign w) b ∷ r) (f (suc (here s)) (omega arith))
+          ∙ alone_end lim side ps (codes "undefined") n s w b r (free_binding side (codes "undefined") (undefined_free side));
     }
 
 -- METHODS
@@ -119,9 +117,9 @@ method_opens {side = side} {y = y} lim d key x (sp_generator_head c) p i q o g p
       reach = a.reach;
       within = a.within;
       same =
-        if_holds lim side (is_source side && fits_below lim s) (method_key ps Generator n) s (x ++ (y ++ r)) (both (is_source side) (fits_below lim s) (source_passes c) (f (suc (here s)) (omega arith)))
-        ∙ a.same
-        ∙ params_read lim p (method_open ps Generator key a.reach) (function_head (method ps key a.reach) Generator None) s r (λ b. refl);
+          if_holds lim side (is_source side && fits_below lim s) (method_key ps Generator n) s (x ++ (y ++ r)) (both (is_source side) (fits_below lim s) (source_passes c) (f (suc (here s)) (omega arith)))
+          ∙ a.same
+          ∙ params_read lim p (method_open ps Generator key a.reach) (function_head (method ps key a.reach) Generator None) s r (λ b. refl);
     }
 method_opens {side = Source} {y = y} lim d key x (sp_async_head c) p i q o g ps n s r j f =
     let a = o ps Async n s (y ++ r) j f in
@@ -129,10 +127,10 @@ method_opens {side = Source} {y = y} lim d key x (sp_async_head c) p i q o g ps 
       reach = a.reach;
       within = a.within;
       same =
-        if_holds lim Source (fits_below lim s) (key_async ps n) s (x ++ (y ++ r)) (f (suc (here s)) (omega arith))
-        ∙ g ps n s (y ++ r) i
-        ∙ a.same
-        ∙ params_read lim p (method_open ps Async key a.reach) (function_head (method ps key a.reach) Async None) s r (λ b. refl);
+          if_holds lim Source (fits_below lim s) (key_async ps n) s (x ++ (y ++ r)) (f (suc (here s)) (omega arith))
+          ∙ g ps n s (y ++ r) i
+          ∙ a.same
+          ∙ params_read lim p (method_open ps Async key a.reach) (function_head (method ps key a.reach) Async None) s r (λ b. refl);
     }
 method_opens {side = Plain} lim d key x (sp_async_head c) p i q o g ps n s r j f = absurd (cc)
 
@@ -150,10 +148,10 @@ row_method {side = side} {kind = kind} {xs = xs} lim b c d key ss w x y z h p i 
       reach = inner.reach;
       within = omega (arith, head.within, inner.within);
       same =
-        ap (runs lim side (key_next ps n) s) (append_assoc (w ++ x ++ y) tail last ∙ append_assoc (w ++ x) y (tail ++ last) ∙ append_assoc w x (y ++ (tail ++ last)))
-        ∙ head.same
-        ∙ ap (runs lim side start (in_list (body (function_head (method ps key head.reach) kind None) xs) end m ∷ s)) (append_assoc z (sign g.CloseBrace c ∷ []) last)
-        ∙ inner.same;
+          ap (runs lim side (key_next ps n) s) (append_assoc (w ++ x ++ y) tail last ∙ append_assoc (w ++ x) y (tail ++ last) ∙ append_assoc w x (y ++ (tail ++ last)))
+          ∙ head.same
+          ∙ ap (runs lim side start (in_list (body (function_head (method ps key head.reach) kind None) xs) end m ∷ s)) (append_assoc z (sign g.CloseBrace c ∷ []) last)
+          ∙ inner.same;
     }
 
 -- LISTS OF PROPERTIES
@@ -189,8 +187,8 @@ row_object lim side b c l d ps x p s r i j m =
       reach = a.reach;
       within = omega (arith, a.within);
       same =
-        ap (after lim side ((x ++ sign g.CloseBrace c ∷ []) ++ r)) (opens lim side s (t.Sign g.OpenBrace) (m.deep (here s) (omega arith)) m.more)
-        ∙ if_holds lim side (cond (begins_statement s) false true) (key_next no_properties (here s)) s ((x ++ sign g.CloseBrace c ∷ []) ++ r) (ap (λ e. cond e false true) (inside s (sign g.OpenBrace b ∷ (x ++ sign g.CloseBrace c ∷ [])) (λ e. e) m.starts))
-        ∙ ap (runs lim side (key_next no_properties (here s)) s) (append_assoc x (sign g.CloseBrace c ∷ []) r)
-        ∙ a.same;
+          ap (after lim side ((x ++ sign g.CloseBrace c ∷ []) ++ r)) (opens lim side s (t.Sign g.OpenBrace) (m.deep (here s) (omega arith)) m.more)
+          ∙ if_holds lim side (cond (begins_statement s) false true) (key_next no_properties (here s)) s ((x ++ sign g.CloseBrace c ∷ []) ++ r) (ap (λ e. cond e false true) (inside s (sign g.OpenBrace b ∷ (x ++ sign g.CloseBrace c ∷ [])) (λ e. e) m.starts))
+          ∙ ap (runs lim side (key_next no_properties (here s)) s) (append_assoc x (sign g.CloseBrace c ∷ []) r)
+          ∙ a.same;
     }

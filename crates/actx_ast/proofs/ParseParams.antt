@@ -1,24 +1,24 @@
 -- Lists of parameters, and what stands before arrows and functions.
-use Rattle.std.proofs.Common.{◌≡◌, ℕ, suc, ◌≤◌, List, [], ◌∷◌, ◌++◌, length, Bool, true, false, ◌&&◌, ◌||◌, Option, Some, None, cond, refl, sym, ◌∙◌, ap, arith, append_assoc}
+use Rattle.std.proofs.Common.{◌≡◌, ℕ, suc, ◌≤◌, List, [], ◌∷◌, ◌++◌, length, Bool, true, false, ◌&&◌, ◌||◌, Some, cond, refl, ◌∙◌, ap, arith, append_assoc}
 use Rattle.actx_ast.specs.declared.operators.FunctionKind.{FunctionKind}
-use Rattle.actx_ast.specs.declared.operators.FunctionKind.TheVariants.{Normal, Arrow, Generator, Async, AsyncArrow}
+use Rattle.actx_ast.specs.declared.operators.FunctionKind.TheVariants.{Normal, Arrow, AsyncArrow}
 use Rattle.actx_ast.specs.declared.side.Side.{Side}
-use Rattle.actx_ast.specs.declared.side.Side.TheVariants.{Source, Plain}
+use Rattle.actx_ast.specs.declared.side.Side.TheVariants.{Source}
 use Rattle.actx_ast.specs.declared.token.Keyword.TheVariants as k
 use Rattle.actx_ast.specs.declared.token.Sign.TheVariants as g
 use Rattle.actx_ast.specs.declared.token.TokenKind.TheVariants as t
-use Rattle.actx_ast.specs.Grammar.{Allows, StartsStatement, SpellsNames, sp_one_name, sp_more_names, SpellsParams, sp_no_params, sp_params, sp_params_comma, SpellsArrowParams, sp_bare_param, sp_listed_params, SpellsHead, sp_normal, sp_normal_named, sp_generator, sp_generator_named, sp_async, sp_async_named, SpellsArrow, sp_arrow_head, sp_async_arrow_head}
+use Rattle.actx_ast.specs.Grammar.{Allows, SpellsNames, sp_one_name, sp_more_names, SpellsParams, sp_no_params, sp_params, sp_params_comma, SpellsArrowParams, sp_bare_param, sp_listed_params, SpellsArrow, sp_arrow_head, sp_async_arrow_head}
 use Rattle.actx_ast.specs.Lexemes.{Lexeme, sign, keyword, lexeme, SameLine}
 use Rattle.actx_ast.specs.Names.{IsBinding}
 use Rattle.actx_ast.specs.Parser.{move}
-use Rattle.actx_ast.specs.ParserFunctions.{close_params, at_function_name, nameless}
-use Rattle.actx_ast.specs.ParserOperands.{is_binding, is_source, takes_whole, begins_statement, has_room, fits_below, begin_operand, words_go}
-use Rattle.actx_ast.specs.ParserState.{Limits, fits, takes_more, Role, expression, declaration, Head, arrow_head, function_head, Frame, in_paren, Mode, start, need, have_name, opened, first_name, async_next, async_start, function_next, name_next, params_open, param_next, param_behind, arrow_sign, arrow_body, body_open, Move, refuse, go, go_if, here}
+use Rattle.actx_ast.specs.ParserFunctions.{close_params}
+use Rattle.actx_ast.specs.ParserOperands.{is_binding, is_source, takes_whole, has_room, fits_below, begin_operand}
+use Rattle.actx_ast.specs.ParserState.{Limits, fits, takes_more, Role, Head, arrow_head, function_head, Frame, in_paren, Mode, need, opened, first_name, async_next, function_next, name_next, params_open, param_next, param_behind, arrow_sign, arrow_body, go, here}
 use Rattle.actx_ast.proofs.ParseCover.{name_opens}
 use Rattle.actx_ast.proofs.ParseLevels.{level_in}
 use Rattle.actx_ast.proofs.ParseNames.{binding_free, binding_passes, source_passes, allowed, allows_less, both}
 use Rattle.actx_ast.proofs.ParseRuns.{runs, after, if_holds}
-use Rattle.actx_ast.proofs.ParseSteps.{Starts, inside, whole_taken, opens}
+use Rattle.actx_ast.proofs.ParseSteps.{whole_taken, opens}
 
 -- PARAMETERS
 length_last : (xs : List (List ℕ)) (x : List ℕ) → length (xs ++ x ∷ []) ≡ suc (length xs)

@@ -1,18 +1,16 @@
 -- What it is that the machine reads a part of a program, over whatever is open.
-use Rattle.std.proofs.Common.{◌≡◌, ℕ, suc, max, ◌+◌, ◌≤◌, List, [], ◌∷◌, ◌++◌, Bool, true, false, Option, Some, None, refl, ◌∙◌, ap, arith}
+use Rattle.std.proofs.Common.{◌≡◌, ℕ, suc, max, ◌+◌, ◌≤◌, List, [], ◌∷◌, ◌++◌, Bool, true, refl, arith}
 use Rattle.actx_ast.specs.declared.operators.LogicOp.{LogicOp}
 use Rattle.actx_ast.specs.declared.side.Side.{Side}
 use Rattle.actx_ast.specs.declared.token.Keyword.TheVariants as k
-use Rattle.actx_ast.specs.declared.token.Sign.{Sign}
 use Rattle.actx_ast.specs.declared.token.Sign.TheVariants as g
 use Rattle.actx_ast.specs.declared.token.TokenKind.{TokenKind}
 use Rattle.actx_ast.specs.declared.token.TokenKind.TheVariants as t
-use Rattle.actx_ast.specs.Grammar.{count, StartsStatement, with_let, with_const, with_property, ends_open}
+use Rattle.actx_ast.specs.Grammar.{count, ends_open}
 use Rattle.actx_ast.specs.Lexemes.{Lexeme, sign}
-use Rattle.actx_ast.specs.Parser.{move, with_stmt}
-use Rattle.actx_ast.specs.ParserOperands.{end_lets, end_consts}
-use Rattle.actx_ast.specs.ParserState.{Limits, role_levels, ItemsOf, ListOwner, program, body, Frame, in_logic, in_value, in_list, Mode, start, body_start, have_stmt, need, have, have_member, key_next, key_end, let_name, const_name, Move, go, levels}
-use Rattle.actx_ast.specs.Tree.{Expr, Exprs, none, Key, PropKey, Properties, LetItems, ConstItems, MaybeExpr, Stmt, Stmts, end, next}
+use Rattle.actx_ast.specs.Parser.{move}
+use Rattle.actx_ast.specs.ParserState.{Limits, role_levels, ListOwner, program, body, Frame, in_logic, in_value, in_list, Mode, start, have_stmt, need, have, have_member, go, levels}
+use Rattle.actx_ast.specs.Tree.{Expr, Exprs, none, Key, Stmt, Stmts, end, next}
 use Rattle.actx_ast.proofs.ParseBegins.{start_left}
 use Rattle.actx_ast.proofs.ParseHeld.{Holder, holds, made, Takes, Closes, list_sign, list_go}
 use Rattle.actx_ast.proofs.ParseLevels.{level_in, binds}

@@ -1,31 +1,20 @@
 -- Operators are read.
-use Rattle.std.proofs.Common.{◌≡◌, ℕ, suc, max, ◌+◌, ◌≤◌, List, [], ◌∷◌, ◌++◌, Bool, true, false, ◌&&◌, ◌||◌, Option, Some, None, refl, sym, ◌∙◌, ap, arith, append_assoc}
+use Rattle.std.proofs.Common.{◌≡◌, ℕ, suc, max, ◌≤◌, List, [], ◌∷◌, ◌++◌, Bool, refl, sym, ◌∙◌, ap, arith, append_assoc}
 use Rattle.actx_ast.specs.declared.operators.BinaryOp.{BinaryOp}
-use Rattle.actx_ast.specs.declared.operators.BinaryOp.TheVariants as o
 use Rattle.actx_ast.specs.declared.operators.LogicOp.TheVariants.{And, Or, Coalesce}
-use Rattle.actx_ast.specs.declared.operators.UnaryOp.{UnaryOp}
-use Rattle.actx_ast.specs.declared.operators.UnaryOp.TheVariants as u
 use Rattle.actx_ast.specs.declared.side.Side.{Side}
-use Rattle.actx_ast.specs.declared.side.Side.TheVariants.{Source, Plain}
-use Rattle.actx_ast.specs.declared.token.Keyword.TheVariants as k
-use Rattle.actx_ast.specs.declared.token.Sign.{Sign}
 use Rattle.actx_ast.specs.declared.token.Sign.TheVariants as g
 use Rattle.actx_ast.specs.declared.token.TokenKind.{TokenKind}
-use Rattle.actx_ast.specs.declared.token.TokenKind.TheVariants as t
-use Rattle.actx_ast.specs.Forms.{unary_word, level_of, sign_of, change_of, bump_sign}
-use Rattle.actx_ast.specs.Lexemes.{Lexeme, sign, keyword, lexeme, kinds, SameLine}
-use Rattle.actx_ast.specs.Names.{IsBinding, IsReference}
-use Rattle.actx_ast.specs.ParserOperands.{is_source, is_binding, takes_whole, fits_below, operand, begin_operand, at_need}
-use Rattle.actx_ast.specs.ParserState.{Limits, fits, Frame, in_unary, in_await, in_binary, in_logic, in_choice, in_other, in_paren, in_set_name, in_change, in_yield, in_yield_all, Mode, need, have, have_name, have_bump, bump_name, opened, yield_next, go, levels, here}
-use Rattle.actx_ast.specs.Tree.{Expr, Unary, Binary, Logic, Choice, SetName, Change, Bump, Yield, YieldAll, Await, no_expr, some_expr}
-use Rattle.actx_ast.proofs.ParseBegins.{BeginsValue}
-use Rattle.actx_ast.proofs.ParseCover.{opened_same, yield_begins, name_opens}
+use Rattle.actx_ast.specs.Forms.{level_of, sign_of}
+use Rattle.actx_ast.specs.Lexemes.{Lexeme, sign, lexeme}
+use Rattle.actx_ast.specs.ParserOperands.{operand, begin_operand, at_need}
+use Rattle.actx_ast.specs.ParserState.{Limits, Frame, in_binary, in_logic, in_choice, in_other, need, have, go, here}
+use Rattle.actx_ast.specs.Tree.{Expr, Binary, Logic, Choice}
 use Rattle.actx_ast.proofs.ParseEnds.{ends, sign_opens, question_opens, logic_opens, or_goes_on, coalesce_goes_on}
-use Rattle.actx_ast.proofs.ParseLevels.{level_in, binds, level_small, grip_op, low}
-use Rattle.actx_ast.proofs.ParseNames.{binding_passes, binding_free, source_passes, both, either_right}
-use Rattle.actx_ast.proofs.ParseReads.{Operand, Chained, ReadsChain, left}
-use Rattle.actx_ast.proofs.ParseRuns.{runs, after, Gives, Fit, fit_less, if_holds}
-use Rattle.actx_ast.proofs.ParseSteps.{Room, opens, whole_taken, bump_have, yield_have, ends_unary, ends_await, ends_binary, ends_logic, ends_other, ends_set_name, ends_change, ends_yield, ends_yield_all}
+use Rattle.actx_ast.proofs.ParseLevels.{level_small, grip_op, low}
+use Rattle.actx_ast.proofs.ParseReads.{Operand, ReadsChain, left}
+use Rattle.actx_ast.proofs.ParseRuns.{runs, after, fit_less}
+use Rattle.actx_ast.proofs.ParseSteps.{opens, ends_binary, ends_logic, ends_other}
 
 -- one token that is an operand
 pub row_leaf : (lim : Limits) (side : Side) (l d : ℕ) (w : TokenKind) (b : Bool) (e : Expr) → ((s : List Frame) → begin_operand lim side s w ≡ at_need lim side s w) → ((s : List Frame) → operand lim side s w ≡ go (have e (here s)) s) → Operand lim side l (suc d) e (lexeme w b ∷ [])
@@ -41,11 +30,11 @@ row_binary lim side op b l d e f x y h p q s r i j m =
       reach = max n c.reach;
       within = omega (arith, a.within, c.within);
       same =
-        ap (runs lim side need s) (append_assoc x (sign (sign_of op) b ∷ y) r)
-        ∙ a.same
-        ∙ sign_opens lim side op b e a.reach s (y ++ r) (omega arith) (m.deep n (omega (arith, a.within)))
-        ∙ c.same
-        ∙ ends (ends_binary op e f n c.reach) lim side s r (omega (arith, level_small op)) (omega arith);
+          ap (runs lim side need s) (append_assoc x (sign (sign_of op) b ∷ y) r)
+          ∙ a.same
+          ∙ sign_opens lim side op b e a.reach s (y ++ r) (omega arith) (m.deep n (omega (arith, a.within)))
+          ∙ c.same
+          ∙ ends (ends_binary op e f n c.reach) lim side s r (omega (arith, level_small op)) (omega arith);
     }
 
 pub row_and : (lim : Limits) (side : Side) (b : Bool) (l d : ℕ) (e f : Expr) (x y : List Lexeme) → l ≤ 4 → Operand lim side 4 d e x → Operand lim side 5 d f y → Operand lim side l (suc d) (Logic And e f) (x ++ sign g.And b ∷ y)
@@ -57,11 +46,11 @@ row_and lim side b l d e f x y h p q s r i j m =
       reach = max n c.reach;
       within = omega (arith, a.within, c.within);
       same =
-        ap (runs lim side need s) (append_assoc x (sign g.And b ∷ y) r)
-        ∙ a.same
-        ∙ logic_opens lim side And b e a.reach s (y ++ r) (omega arith) (m.deep n (omega (arith, a.within)))
-        ∙ c.same
-        ∙ ends (ends_logic And e f n c.reach) lim side s r (omega arith) (omega arith);
+          ap (runs lim side need s) (append_assoc x (sign g.And b ∷ y) r)
+          ∙ a.same
+          ∙ logic_opens lim side And b e a.reach s (y ++ r) (omega arith) (m.deep n (omega (arith, a.within)))
+          ∙ c.same
+          ∙ ends (ends_logic And e f n c.reach) lim side s r (omega arith) (omega arith);
     }
 
 -- CHAINS
@@ -76,10 +65,10 @@ row_first_or lim side b d e f x y p q s r i j m =
       left_within = omega (arith, a.within);
       right_within = omega (arith, c.within);
       same =
-        ap (runs lim side need s) (append_assoc x (sign g.Or b ∷ y) r)
-        ∙ a.same
-        ∙ logic_opens lim side Or b e a.reach s (y ++ r) i (m.deep n (omega (arith, a.within)))
-        ∙ c.same;
+          ap (runs lim side need s) (append_assoc x (sign g.Or b ∷ y) r)
+          ∙ a.same
+          ∙ logic_opens lim side Or b e a.reach s (y ++ r) i (m.deep n (omega (arith, a.within)))
+          ∙ c.same;
     }
 
 pub row_more_or : (lim : Limits) (side : Side) (b : Bool) (d : ℕ) (e f w : Expr) (x y : List Lexeme) → ReadsChain lim side Or 4 d e f x → Operand lim side 4 (suc d) w y → ReadsChain lim side Or 4 (suc d) (Logic Or e f) w (x ++ sign g.Or b ∷ y)
@@ -93,10 +82,10 @@ row_more_or lim side b d e f w x y p q s r i j m =
       left_within = omega (arith, a.left_within, a.right_within);
       right_within = omega (arith, c.within);
       same =
-        ap (runs lim side need s) (append_assoc x (sign g.Or b ∷ y) r)
-        ∙ a.same
-        ∙ or_goes_on lim side b e f a.left a.right s (y ++ r) i (m.deep n (omega (arith, a.left_within, a.right_within)))
-        ∙ c.same;
+          ap (runs lim side need s) (append_assoc x (sign g.Or b ∷ y) r)
+          ∙ a.same
+          ∙ or_goes_on lim side b e f a.left a.right s (y ++ r) i (m.deep n (omega (arith, a.left_within, a.right_within)))
+          ∙ c.same;
     }
 
 pub row_first_coalesce : (lim : Limits) (side : Side) (b : Bool) (d : ℕ) (e f : Expr) (x y : List Lexeme) → Operand lim side 5 d e x → Operand lim side 5 d f y → ReadsChain lim side Coalesce 5 d e f (x ++ sign g.Coalesce b ∷ y)
@@ -110,10 +99,10 @@ row_first_coalesce lim side b d e f x y p q s r i j m =
       left_within = omega (arith, a.within);
       right_within = omega (arith, c.within);
       same =
-        ap (runs lim side need s) (append_assoc x (sign g.Coalesce b ∷ y) r)
-        ∙ a.same
-        ∙ logic_opens lim side Coalesce b e a.reach s (y ++ r) i (m.deep n (omega (arith, a.within)))
-        ∙ c.same;
+          ap (runs lim side need s) (append_assoc x (sign g.Coalesce b ∷ y) r)
+          ∙ a.same
+          ∙ logic_opens lim side Coalesce b e a.reach s (y ++ r) i (m.deep n (omega (arith, a.within)))
+          ∙ c.same;
     }
 
 pub row_more_coalesce : (lim : Limits) (side : Side) (b : Bool) (d : ℕ) (e f w : Expr) (x y : List Lexeme) → ReadsChain lim side Coalesce 5 d e f x → Operand lim side 5 (suc d) w y → ReadsChain lim side Coalesce 5 (suc d) (Logic Coalesce e f) w (x ++ sign g.Coalesce b ∷ y)
@@ -127,10 +116,10 @@ row_more_coalesce lim side b d e f w x y p q s r i j m =
       left_within = omega (arith, a.left_within, a.right_within);
       right_within = omega (arith, c.within);
       same =
-        ap (runs lim side need s) (append_assoc x (sign g.Coalesce b ∷ y) r)
-        ∙ a.same
-        ∙ coalesce_goes_on lim side b e f a.left a.right s (y ++ r) i (m.deep n (omega (arith, a.left_within, a.right_within)))
-        ∙ c.same;
+          ap (runs lim side need s) (append_assoc x (sign g.Coalesce b ∷ y) r)
+          ∙ a.same
+          ∙ coalesce_goes_on lim side b e f a.left a.right s (y ++ r) i (m.deep n (omega (arith, a.left_within, a.right_within)))
+          ∙ c.same;
     }
 
 pub row_or : (lim : Limits) (side : Side) (l d : ℕ) (e f : Expr) (x : List Lexeme) → l ≤ 3 → ReadsChain lim side Or 4 d e f x → Operand lim side l (suc d) (Logic Or e f) x
@@ -155,11 +144,11 @@ row_choice lim side b c l d e f w x y z h p q o s r i j m =
       reach = max n2 a3.reach;
       within = omega (arith, a1.within, a2.within, a3.within);
       same =
-        ap (runs lim side need s) (append_assoc x tail r)
-        ∙ a1.same
-        ∙ question_opens lim side b e a1.reach s ((y ++ sign g.Colon c ∷ z) ++ r) (omega arith) (m.deep n1 (omega (arith, a1.within)))
-        ∙ ap (runs lim side need (in_choice e n1 ∷ s)) (append_assoc y (sign g.Colon c ∷ z) r)
-        ∙ a2.same
-        ∙ a3.same
-        ∙ ends (ends_other e f w n2 a3.reach) lim side s r (omega arith) (omega arith);
+          ap (runs lim side need s) (append_assoc x tail r)
+          ∙ a1.same
+          ∙ question_opens lim side b e a1.reach s ((y ++ sign g.Colon c ∷ z) ++ r) (omega arith) (m.deep n1 (omega (arith, a1.within)))
+          ∙ ap (runs lim side need (in_choice e n1 ∷ s)) (append_assoc y (sign g.Colon c ∷ z) r)
+          ∙ a2.same
+          ∙ a3.same
+          ∙ ends (ends_other e f w n2 a3.reach) lim side s r (omega arith) (omega arith);
     }

@@ -1,9 +1,9 @@
 -- The machine's run without its count of tokens, and how far what is read reaches.
-use Rattle.std.proofs.Common.{◌≡◌, ℕ, suc, ◌+◌, ◌≤◌, List, [], ◌∷◌, Bool, true, Option, Some, None, refl, ◌∙◌, ap, arith}
+use Rattle.std.proofs.Common.{◌≡◌, ℕ, suc, ◌≤◌, List, [], ◌∷◌, Bool, true, Option, Some, None, ap, arith}
 use Rattle.actx_ast.specs.declared.side.Side.{Side}
 use Rattle.actx_ast.specs.Lexemes.{Lexeme}
 use Rattle.actx_ast.specs.ParserState.{Limits, fits, Frame, Mode, Move, refuse, go, go_if}
-use Rattle.actx_ast.specs.Parser.{move, step, finish, Reason, reason, Outcome, parsed, refused, finished, carry, limits, run}
+use Rattle.actx_ast.specs.Parser.{step, finish, reason, Outcome, parsed, refused, finished, carry, limits, run}
 use Rattle.actx_ast.specs.Tree.{Stmts}
 
 -- what a move leads to

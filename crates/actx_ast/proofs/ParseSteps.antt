@@ -1,27 +1,25 @@
 -- Single steps of the parser: operands that begin, what stands behind them, and what ends what is open.
-use Rattle.std.proofs.Common.{◌≡◌, ℕ, suc, max, ◌+◌, ◌≤◌, List, [], ◌∷◌, ◌++◌, Bool, true, false, ◌&&◌, Option, None, cond, refl, ◌∙◌, ap, arith}
+use Rattle.std.proofs.Common.{◌≡◌, ℕ, suc, max, ◌+◌, ◌≤◌, List, [], ◌∷◌, Bool, true, false, ◌&&◌, None, cond, refl, ◌∙◌, ap, arith}
 use Rattle.std.specs.Prelude.{nat_le}
 use Rattle.actx_ast.specs.declared.operators.BinaryOp.{BinaryOp}
-use Rattle.actx_ast.specs.declared.operators.BinaryOp.TheVariants as o
 use Rattle.actx_ast.specs.declared.operators.FunctionKind.{FunctionKind}
 use Rattle.actx_ast.specs.declared.operators.LogicOp.{LogicOp}
 use Rattle.actx_ast.specs.declared.operators.LogicOp.TheVariants.{And, Or, Coalesce}
 use Rattle.actx_ast.specs.declared.operators.UnaryOp.{UnaryOp}
 use Rattle.actx_ast.specs.declared.side.Side.{Side}
-use Rattle.actx_ast.specs.declared.token.Sign.{Sign}
 use Rattle.actx_ast.specs.declared.token.Sign.TheVariants as g
 use Rattle.actx_ast.specs.declared.token.TokenKind.{TokenKind}
 use Rattle.actx_ast.specs.declared.token.TokenKind.TheVariants as t
-use Rattle.actx_ast.specs.Forms.{level_of, sign_of}
+use Rattle.actx_ast.specs.Forms.{level_of}
 use Rattle.actx_ast.specs.Grammar.{StartsStatement}
-use Rattle.actx_ast.specs.Lexemes.{Lexeme, sign}
+use Rattle.actx_ast.specs.Lexemes.{Lexeme}
 use Rattle.actx_ast.specs.Parser.{move, finish}
-use Rattle.actx_ast.specs.ParserOperands.{named, takes_whole, begins_statement, has_room, fits_below, operand, begin_operand, close_paren, close_bracket, close_brace, comma, semicolon, colon, binary, logic, mixes, unmixed, tighter, choice}
-use Rattle.actx_ast.specs.ParserState.{Limits, fits, Frame, in_unary, in_await, in_binary, in_logic, in_other, in_set_name, in_set, in_change, in_arrow, in_yield, in_yield_all, in_choice, in_value, Mode, need, have, have_member, have_name, have_bump, whole, yield_next, Move, refuse, go, go_if, levels, here, logic_level, Settled, settled, settle}
-use Rattle.actx_ast.specs.Tree.{Expr, Unary, Binary, Logic, Choice, SetName, SetMember, Change, Member, Function, Yield, YieldAll, Await, no_expr, some_expr, Key, code, Return, Stmts, end, next}
-use Rattle.actx_ast.proofs.ParseLevels.{right_level, level_in, grip, binds, level_small, level_great, grip_op}
+use Rattle.actx_ast.specs.ParserOperands.{named, takes_whole, begins_statement, has_room, operand, begin_operand}
+use Rattle.actx_ast.specs.ParserState.{Limits, fits, Frame, in_unary, in_await, in_binary, in_logic, in_other, in_set_name, in_set, in_change, in_arrow, in_yield, in_yield_all, in_value, Mode, have, have_member, have_name, have_bump, whole, yield_next, refuse, levels, here, logic_level, settled, settle}
+use Rattle.actx_ast.specs.Tree.{Expr, Unary, Binary, Logic, Choice, SetName, SetMember, Change, Member, Function, Yield, YieldAll, Await, no_expr, some_expr, Key, code, Return, end, next}
+use Rattle.actx_ast.proofs.ParseLevels.{level_in, grip, binds, level_great}
 use Rattle.actx_ast.proofs.ParseNames.{le_true, le_false}
-use Rattle.actx_ast.proofs.ParseRuns.{runs, after, Fit, if_holds}
+use Rattle.actx_ast.proofs.ParseRuns.{runs, after, Fit}
 
 -- PLACES
 -- what begins a statement begins no other one

@@ -1,11 +1,11 @@
 -- Operators of one operand, parentheses and names that are assigned are read.
-use Rattle.std.proofs.Common.{◌≡◌, ℕ, suc, max, ◌+◌, ◌≤◌, List, [], ◌∷◌, ◌++◌, Bool, true, false, ◌&&◌, ◌||◌, Option, Some, None, refl, sym, ◌∙◌, ap, arith, append_assoc}
+use Rattle.std.proofs.Common.{◌≡◌, ℕ, suc, ◌≤◌, List, [], ◌∷◌, ◌++◌, Bool, true, false, ◌&&◌, ◌||◌, Some, refl, sym, ◌∙◌, ap, arith, append_assoc}
 use Rattle.actx_ast.specs.declared.operators.BinaryOp.{BinaryOp}
 use Rattle.actx_ast.specs.declared.operators.BinaryOp.TheVariants as o
 use Rattle.actx_ast.specs.declared.operators.UnaryOp.{UnaryOp}
 use Rattle.actx_ast.specs.declared.operators.UnaryOp.TheVariants as u
 use Rattle.actx_ast.specs.declared.side.Side.{Side}
-use Rattle.actx_ast.specs.declared.side.Side.TheVariants.{Source, Plain}
+use Rattle.actx_ast.specs.declared.side.Side.TheVariants.{Source}
 use Rattle.actx_ast.specs.declared.token.Keyword.TheVariants as k
 use Rattle.actx_ast.specs.declared.token.Sign.{Sign}
 use Rattle.actx_ast.specs.declared.token.Sign.TheVariants as g
@@ -15,16 +15,16 @@ use Rattle.actx_ast.specs.Forms.{unary_word, change_of, bump_sign}
 use Rattle.actx_ast.specs.Lexemes.{Lexeme, sign, keyword, lexeme, kinds, SameLine}
 use Rattle.actx_ast.specs.Names.{IsBinding, IsReference}
 use Rattle.actx_ast.specs.ParserFunctions.{assign}
-use Rattle.actx_ast.specs.ParserOperands.{is_source, is_binding, takes_whole, fits_below, prefix, named, operand, begin_operand, at_need}
-use Rattle.actx_ast.specs.ParserState.{Limits, fits, Frame, in_unary, in_await, in_paren, in_set_name, in_change, in_yield, in_yield_all, Mode, need, have, have_name, have_bump, bump_name, opened, yield_next, go, go_if, levels, here}
+use Rattle.actx_ast.specs.ParserOperands.{is_source, is_binding, takes_whole, fits_below, prefix, operand, begin_operand, at_need}
+use Rattle.actx_ast.specs.ParserState.{Limits, Frame, in_unary, in_await, in_paren, in_set_name, in_change, in_yield, in_yield_all, Mode, need, have, have_name, have_bump, bump_name, opened, yield_next, go_if, here}
 use Rattle.actx_ast.specs.Tree.{Expr, Unary, SetName, Change, Bump, Named, Undefined, Yield, YieldAll, Await, no_expr, some_expr}
 use Rattle.actx_ast.proofs.ParseBegins.{BeginsValue}
 use Rattle.actx_ast.proofs.ParseCover.{opened_same, yield_begins, name_opens}
 use Rattle.actx_ast.proofs.ParseEnds.{ends}
-use Rattle.actx_ast.proofs.ParseLevels.{level_in, binds}
+use Rattle.actx_ast.proofs.ParseLevels.{level_in}
 use Rattle.actx_ast.proofs.ParseNames.{binding_passes, binding_free, reference_free, reference_named, undefined_free, source_passes, both, either_right}
 use Rattle.actx_ast.proofs.ParseReads.{Operand}
-use Rattle.actx_ast.proofs.ParseRuns.{runs, after, Gives, Fit, fit_less, if_holds}
+use Rattle.actx_ast.proofs.ParseRuns.{runs, after, fit_less, if_holds}
 use Rattle.actx_ast.proofs.ParseSteps.{Room, opens, whole_taken, name_have, bump_have, yield_have, ends_unary, ends_await, ends_set_name, ends_change, ends_yield, ends_yield_all}
 use Rattle.std.specs.Prelude.{codes}
 
@@ -48,9 +48,9 @@ row_unary lim side op b l d e x f h p s r i j m =
       reach = a.reach;
       within = omega (arith, a.within);
       same =
-        enters lim side d s (lexeme (unary_word op) b ∷ x) (unary_word op) (fits_below lim s) need (in_unary op ∷ s) (x ++ r) m (unary_need lim side op s) (unary_operand lim side op s) (m.deep (suc (here s)) (omega arith))
-        ∙ a.same
-        ∙ ends (ends_unary op e a.reach) lim side s r (omega arith) (omega arith);
+          enters lim side d s (lexeme (unary_word op) b ∷ x) (unary_word op) (fits_below lim s) need (in_unary op ∷ s) (x ++ r) m (unary_need lim side op s) (unary_operand lim side op s) (m.deep (suc (here s)) (omega arith))
+          ∙ a.same
+          ∙ ends (ends_unary op e a.reach) lim side s r (omega arith) (omega arith);
     }
 
 pub row_await : (lim : Limits) (side : Side) (b : Bool) (l d : ℕ) (e : Expr) (x : List Lexeme) → 1 ≤ d → side ≡ Source → l ≤ 9 → Operand lim side 9 d e x → Operand lim side l (suc d) (Await e) (keyword k.Await b ∷ x)
@@ -60,9 +60,9 @@ row_await lim side b l d e x f c h p s r i j m =
       reach = a.reach;
       within = omega (arith, a.within);
       same =
-        enters lim side d s (keyword k.Await b ∷ x) (t.Keyword k.Await) (is_source side && fits_below lim s) need (in_await ∷ s) (x ++ r) m refl refl (both (is_source side) (fits_below lim s) (source_passes c) (m.deep (suc (here s)) (omega arith)))
-        ∙ a.same
-        ∙ ends (ends_await e a.reach) lim side s r (omega arith) (omega arith);
+          enters lim side d s (keyword k.Await b ∷ x) (t.Keyword k.Await) (is_source side && fits_below lim s) need (in_await ∷ s) (x ++ r) m refl refl (both (is_source side) (fits_below lim s) (source_passes c) (m.deep (suc (here s)) (omega arith)))
+          ∙ a.same
+          ∙ ends (ends_await e a.reach) lim side s r (omega arith) (omega arith);
     }
 
 -- YIELD
@@ -84,10 +84,10 @@ row_yield lim side b l d e x v y c h p s r i j m =
       reach = a.reach;
       within = omega (arith, a.within);
       same =
-        yield_opens lim side d s (keyword k.Yield b ∷ x) (x ++ r) c (omega arith) m
-        ∙ yield_begins lim side s x r v y
-        ∙ a.same
-        ∙ ends (ends_yield e a.reach) lim side s r (omega arith) (omega arith);
+          yield_opens lim side d s (keyword k.Yield b ∷ x) (x ++ r) c (omega arith) m
+          ∙ yield_begins lim side s x r v y
+          ∙ a.same
+          ∙ ends (ends_yield e a.reach) lim side s r (omega arith) (omega arith);
     }
 
 pub row_yield_all : (lim : Limits) (side : Side) (b : Bool) (l d : ℕ) (e : Expr) (x : List Lexeme) → 1 ≤ d → side ≡ Source → l ≤ 1 → Operand lim side 1 d e x → Operand lim side l (suc d) (YieldAll e) (keyword k.Yield b ∷ sign g.Star false ∷ x)
@@ -97,10 +97,10 @@ row_yield_all lim side b l d e x f c h p s r i j m =
       reach = a.reach;
       within = omega (arith, a.within);
       same =
-        yield_opens lim side d s (keyword k.Yield b ∷ sign g.Star false ∷ x) (sign g.Star false ∷ (x ++ r)) c (omega arith) m
-        ∙ if_holds lim side (fits_below lim s) need (in_yield_all ∷ s) (x ++ r) (m.deep (suc (here s)) (omega arith))
-        ∙ a.same
-        ∙ ends (ends_yield_all e a.reach) lim side s r (omega arith) (omega arith);
+          yield_opens lim side d s (keyword k.Yield b ∷ sign g.Star false ∷ x) (sign g.Star false ∷ (x ++ r)) c (omega arith) m
+          ∙ if_holds lim side (fits_below lim s) need (in_yield_all ∷ s) (x ++ r) (m.deep (suc (here s)) (omega arith))
+          ∙ a.same
+          ∙ ends (ends_yield_all e a.reach) lim side s r (omega arith) (omega arith);
     }
 
 -- PARENTHESES
@@ -111,10 +111,10 @@ row_paren lim side b c l d e x h f v p s r i j m =
       reach = a.reach;
       within = omega (arith, a.within);
       same =
-        enters lim side d s (sign g.OpenParen b ∷ (x ++ sign g.CloseParen c ∷ [])) (t.Sign g.OpenParen) (takes_whole s || fits_below lim s) opened s ((x ++ sign g.CloseParen c ∷ []) ++ r) m refl refl (either_right (takes_whole s) (fits_below lim s) (m.deep (suc (here s)) (omega arith)))
-        ∙ ap (runs lim side opened s) (append_assoc x (sign g.CloseParen c ∷ []) r)
-        ∙ opened_same lim side s x c r (m.deep (here (in_paren ∷ s)) (omega arith)) v (omega arith)
-        ∙ a.same;
+          enters lim side d s (sign g.OpenParen b ∷ (x ++ sign g.CloseParen c ∷ [])) (t.Sign g.OpenParen) (takes_whole s || fits_below lim s) opened s ((x ++ sign g.CloseParen c ∷ []) ++ r) m refl refl (either_right (takes_whole s) (fits_below lim s) (m.deep (suc (here s)) (omega arith)))
+          ∙ ap (runs lim side opened s) (append_assoc x (sign g.CloseParen c ∷ []) r)
+          ∙ opened_same lim side s x c r (m.deep (here (in_paren ∷ s)) (omega arith)) v (omega arith)
+          ∙ a.same;
     }
 
 -- NAMES
@@ -127,9 +127,9 @@ row_name lim side x b l d h c s r i j m =
       reach = here s;
       within = omega arith;
       same =
-        ap (after lim side r) (opens lim side s (t.Name x) (m.deep (here s) (omega arith)) m.more ∙ name_opens lim side s x (reference_free c))
-        ∙ name_have lim side x s r (omega arith)
-        ∙ ap (λ e. runs lim side (have e (here s)) s r) (reference_named c);
+          ap (after lim side r) (opens lim side s (t.Name x) (m.deep (here s) (omega arith)) m.more ∙ name_opens lim side s x (reference_free c))
+          ∙ name_have lim side x s r (omega arith)
+          ∙ ap (λ e. runs lim side (have e (here s)) s r) (reference_named c);
     }
 
 pub row_undefined : (lim : Limits) (side : Side) (b : Bool) (l d : ℕ) → l ≤ 12 → Operand lim side l (suc d) Undefined (lexeme (t.Name (codes "undefined")) b ∷ [])
@@ -138,8 +138,8 @@ row_undefined lim side b l d h s r i j m =
       reach = here s;
       within = omega arith;
       same =
-        ap (after lim side r) (opens lim side s (t.Name (codes "undefined")) (m.deep (here s) (omega arith)) m.more ∙ name_opens lim side s (codes "undefined") (undefined_free side))
-        ∙ name_have lim side (codes "undefined") s r (omega arith);
+          ap (after lim side r) (opens lim side s (t.Name (codes "undefined")) (m.deep (here s) (omega arith)) m.more ∙ name_opens lim side s (codes "undefined") (undefined_free side))
+          ∙ name_have lim side (codes "undefined") s r (omega arith);
     }
 
 pub row_set_name : (lim : Limits) (side : Side) (x : List ℕ) (b c : Bool) (l d : ℕ) (e : Expr) (y : List Lexeme) → 1 ≤ d → l ≤ 1 → IsBinding side x → Operand lim side 1 d e y → Operand lim side l (suc d) (SetName x e) (lexeme (t.Name x) b ∷ sign g.Assign c ∷ y)
@@ -149,10 +149,10 @@ row_set_name lim side x b c l d e y f h n p s r i j m =
       reach = a.reach;
       within = omega (arith, a.within);
       same =
-        name_enters lim side d s x (lexeme (t.Name x) b ∷ sign g.Assign c ∷ y) (sign g.Assign c ∷ (y ++ r)) n m
-        ∙ if_holds lim side (takes_whole s && fits_below lim s) need (in_set_name x ∷ s) (y ++ r) (both (takes_whole s) (fits_below lim s) (whole_taken s (omega arith)) (m.deep (suc (here s)) (omega arith)))
-        ∙ a.same
-        ∙ ends (ends_set_name x e a.reach) lim side s r (omega arith) (omega arith);
+          name_enters lim side d s x (lexeme (t.Name x) b ∷ sign g.Assign c ∷ y) (sign g.Assign c ∷ (y ++ r)) n m
+          ∙ if_holds lim side (takes_whole s && fits_below lim s) need (in_set_name x ∷ s) (y ++ r) (both (takes_whole s) (fits_below lim s) (whole_taken s (omega arith)) (m.deep (suc (here s)) (omega arith)))
+          ∙ a.same
+          ∙ ends (ends_set_name x e a.reach) lim side s r (omega arith) (omega arith);
     }
 
 change_opens : (lim : Limits) (side : Side) (x : List ℕ) (op : BinaryOp) (sg : Sign) (c : Bool) (s : List Frame) (r : List Lexeme) → change_of op ≡ Some sg → after lim side r (assign lim (in_change x op) s) ≡ runs lim side (have_name x) s (sign sg c ∷ r)
@@ -168,11 +168,11 @@ row_change lim side x op sg b c l d e y f h n q p s r i j m =
       reach = a.reach;
       within = omega (arith, a.within);
       same =
-        name_enters lim side d s x (lexeme (t.Name x) b ∷ sign sg c ∷ y) (sign sg c ∷ (y ++ r)) n m
-        ∙ sym (change_opens lim side x op sg c s (y ++ r) q)
-        ∙ if_holds lim side (takes_whole s && fits_below lim s) need (in_change x op ∷ s) (y ++ r) (both (takes_whole s) (fits_below lim s) (whole_taken s (omega arith)) (m.deep (suc (here s)) (omega arith)))
-        ∙ a.same
-        ∙ ends (ends_change x op e a.reach) lim side s r (omega arith) (omega arith);
+          name_enters lim side d s x (lexeme (t.Name x) b ∷ sign sg c ∷ y) (sign sg c ∷ (y ++ r)) n m
+          ∙ sym (change_opens lim side x op sg c s (y ++ r) q)
+          ∙ if_holds lim side (takes_whole s && fits_below lim s) need (in_change x op ∷ s) (y ++ r) (both (takes_whole s) (fits_below lim s) (whole_taken s (omega arith)) (m.deep (suc (here s)) (omega arith)))
+          ∙ a.same
+          ∙ ends (ends_change x op e a.reach) lim side s r (omega arith) (omega arith);
     }
 
 -- ++ and --
@@ -186,9 +186,9 @@ row_bump_before lim side x up b c l d h n s r i j m =
       reach = here s;
       within = omega arith;
       same =
-        bump_opens lim side d s (sign (bump_sign up) b ∷ lexeme (t.Name x) c ∷ []) up (lexeme (t.Name x) c ∷ r) m
-        ∙ if_holds lim side (is_binding side x) (have_bump (Bump x up true)) s r (binding_passes n)
-        ∙ bump_have lim side (Bump x up true) s r (omega arith);
+          bump_opens lim side d s (sign (bump_sign up) b ∷ lexeme (t.Name x) c ∷ []) up (lexeme (t.Name x) c ∷ r) m
+          ∙ if_holds lim side (is_binding side x) (have_bump (Bump x up true)) s r (binding_passes n)
+          ∙ bump_have lim side (Bump x up true) s r (omega arith);
     }
 
 bump_behind : (lim : Limits) (side : Side) (x : List ℕ) (up : Bool) (s : List Frame) (r : List Lexeme) → runs lim side (have_name x) s (sign (bump_sign up) false ∷ r) ≡ runs lim side (have_bump (Bump x up false)) s r
@@ -201,7 +201,7 @@ row_bump_behind lim side x up b l d h n s r i j m =
       reach = here s;
       within = omega arith;
       same =
-        name_enters lim side d s x (lexeme (t.Name x) b ∷ sign (bump_sign up) false ∷ []) (sign (bump_sign up) false ∷ r) n m
-        ∙ bump_behind lim side x up s r
-        ∙ bump_have lim side (Bump x up false) s r (omega arith);
+          name_enters lim side d s x (lexeme (t.Name x) b ∷ sign (bump_sign up) false ∷ []) (sign (bump_sign up) false ∷ r) n m
+          ∙ bump_behind lim side x up s r
+          ∙ bump_have lim side (Bump x up false) s r (omega arith);
     }
