@@ -11,3 +11,5 @@ pub mod ParserOperands
 pub mod ParserFunctions
 pub mod Parser
 pub mod Exact
+pub mod Nodes
+pub mod Static
