@@ -13,3 +13,4 @@ pub mod Parser
 pub mod Exact
 pub mod Nodes
 pub mod Static
+pub mod Sides
