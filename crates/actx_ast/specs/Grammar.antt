@@ -107,7 +107,7 @@ pub data SpellsParams (side : Side) (most : Option ℕ) : List (List ℕ) → Li
 
 -- those of an arrow: also one name alone
 pub data SpellsArrowParams (side : Side) (most : Option ℕ) : List (List ℕ) → List Lexeme → Type 0 where
-  sp_bare_param : {x : List ℕ} {b : Bool} → IsBinding side x → SpellsArrowParams side most (x ∷ []) (lexeme (t.Name x) b ∷ [])
+  sp_bare_param : {x : List ℕ} {b : Bool} → IsBinding side x → Allows most 1 → SpellsArrowParams side most (x ∷ []) (lexeme (t.Name x) b ∷ [])
   sp_listed_params : {xs : List (List ℕ)} {y : List Lexeme} → SpellsParams side most xs y → SpellsArrowParams side most xs y
 
 -- what stands before the parameters of a function, with its name or without

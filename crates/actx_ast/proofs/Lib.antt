@@ -1,0 +1,3 @@
+pub mod SpellDeeper
+pub mod SpellLaid
+pub mod SpellPlaces
