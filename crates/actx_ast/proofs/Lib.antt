@@ -1,3 +1,5 @@
 pub mod SpellDeeper
 pub mod SpellLaid
 pub mod SpellPlaces
+pub mod SpellBounds
+pub mod SpellDepths

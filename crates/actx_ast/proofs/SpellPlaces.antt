@@ -72,13 +72,13 @@ pub may_front : (st : Start) (x y : List Lexeme) → May st (kinds (x ++ y)) →
 may_front st x y h = front_kinds st (kinds x) (kinds y) (subst (May st) (kinds_append x y) h)
 
 -- A FUNCTION OR AN OBJECT begins no statement
-head_starts : {side : Side} {kind : FunctionKind} {name : Option (List ℕ)} {x : List Lexeme} → SpellsHead side kind name x → (y : List Lexeme) → IsStatementStart (kinds (x ++ y)) → ⊥
-head_starts sp_normal y h = h
-head_starts (sp_normal_named n) y h = h
-head_starts (sp_generator s) y h = h
-head_starts (sp_generator_named s n) y h = h
-head_starts (sp_async s) y h = h
-head_starts (sp_async_named s n) y h = h
+pub head_starts : {side : Side} {kind : FunctionKind} {name : Option (List ℕ)} {x : List Lexeme} → SpellsHead side kind name x → IsStatementStart (kinds x) → ⊥
+head_starts sp_normal h = h
+head_starts (sp_normal_named n) h = h
+head_starts (sp_generator s) h = h
+head_starts (sp_generator_named s n) h = h
+head_starts (sp_async s) h = h
+head_starts (sp_async_named s n) h = h
 
 -- WHAT A STATEMENT IS PRINTED AS begins one
 async_on : (x y : List TokenKind) → IsStatementStart (t.Keyword k.Async ∷ x) → IsStatementStart y → IsStatementStart (t.Keyword k.Async ∷ (x ++ y))
