@@ -3,3 +3,4 @@ pub mod SpellLaid
 pub mod SpellPlaces
 pub mod SpellBounds
 pub mod SpellDepths
+pub mod SpellNames
