@@ -4,3 +4,5 @@ pub mod SpellPlaces
 pub mod SpellBounds
 pub mod SpellDepths
 pub mod SpellNames
+pub mod SpellSaid
+pub mod SpellChains
