@@ -6,3 +6,5 @@ pub mod SpellDepths
 pub mod SpellNames
 pub mod SpellSaid
 pub mod SpellChains
+pub mod SpellLasts
+pub mod SpellHeads

@@ -1,5 +1,5 @@
 -- Names, reserved words and fixed keys: which token is printed for them, and its form.
-use Rattle.std.proofs.Common.{◌≡◌, ℕ, ◌+◌, ◌-◌, ◌/◌, ◌%◌, ◌<◌, Bool, true, false, ◌&&◌, ◌||◌, List, [], ◌∷◌, Some, refl, sym, ap, ◌∙◌, subst, arith, rules, nat_lt, nat_le, IsTrue, All, ◌==◌, if◌then◌else◌}
+use Rattle.std.proofs.Common.{◌≡◌, ℕ, ◌+◌, ◌-◌, ◌/◌, ◌%◌, ◌<◌, Bool, true, false, ◌&&◌, ◌||◌, List, [], ◌∷◌, Some, refl, sym, ap, ◌∙◌, subst, arith, true≢false, rules, nat_lt, nat_le, IsTrue, All, ◌==◌, if◌then◌else◌}
 use Rattle.std.proofs.lemmas.Bool.Decides.{nat_tests}
 use Rattle.std.proofs.lemmas.List.Elements.{All-nil, All-cons, All-append, All-head, All-tail}
 use Rattle.std.specs.Cmp.Lexicographic.{pointwise}
@@ -20,7 +20,6 @@ use Rattle.ucd_derived.specs.XidStartRanges.{xid_start_ranges} -- keep
 use Rattle.ucd_derived.specs.XidContinueRanges.{xid_continue_ranges} -- keep
 use Rattle.unicode_ident.specs.Ident.{is_xid_start, is_xid_continue} -- keep
 use Rattle.unicode_ident.proofs.IdentLemmas.{is_xid_start-ascii, is_xid_continue-ascii} -- keep
-use Rattle.std.proofs.Common.{true≢false} -- keep
 use Rattle.std.specs.Char.{is_ascii_alphabetic, is_ascii_alphanumeric} -- keep
 
 -- WORDS BEHIND A DOT
