@@ -8,3 +8,5 @@ pub mod SpellSaid
 pub mod SpellChains
 pub mod SpellLasts
 pub mod SpellHeads
+pub mod SpellRows
+pub mod SpellParts
