@@ -10,3 +10,4 @@ pub mod SpellLasts
 pub mod SpellHeads
 pub mod SpellRows
 pub mod SpellParts
+pub mod SpellStatements
