@@ -11,3 +11,4 @@ pub mod SpellHeads
 pub mod SpellRows
 pub mod SpellParts
 pub mod SpellStatements
+pub mod SpellAgain

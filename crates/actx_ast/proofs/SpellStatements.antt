@@ -13,7 +13,7 @@ use Rattle.actx_ast.specs.Layout.{laid_from}
 use Rattle.actx_ast.specs.Lexemes.{Lexeme, sign, keyword}
 use Rattle.actx_ast.specs.Names.{IsBinding}
 use Rattle.actx_ast.specs.Words.{greatest_number}
-use Rattle.actx_ast.specs.Tree.{Expr, MaybeExpr, Code, LetItems, ConstItems, Init, Stmt, Catch, Clauses, Stmts, some_expr, code, Let, Const, Fun, Block, If, While, DoWhile, For, ForOf, Return, Throw, Try, Value, Switch, no_stmt, some_stmt, no_catch, no_last, last, no_clauses, clause, next}
+use Rattle.actx_ast.specs.Tree.{Expr, MaybeExpr, LetItems, ConstItems, Init, Stmt, Catch, Clauses, Stmts, some_expr, code, Let, Const, Fun, Block, If, While, DoWhile, For, ForOf, Return, Throw, Try, Value, Switch, no_stmt, some_stmt, no_catch, no_last, last, no_clauses, clause, next}
 use Rattle.actx_ast.specs.Grammar.{IsStatementStart, IsBody, ends_open, SpellsHead, SpellsBody, sp_let, sp_const, sp_fun, sp_block, sp_if, sp_if_else, sp_while, sp_do_while, sp_for, sp_for_of_let, sp_for_of_const, sp_return, sp_throw, sp_try_catch, sp_try_finally, sp_try_both, sp_value, sp_switch, sp_braces, sp_body, sp_default, sp_case, sp_next}
 use Rattle.actx_ast.specs.Spell.{round, braced, spell, spell_maybe, spell_lets, spell_consts, spell_init, spell_stmt, spell_catch, spell_clauses, spell_program, inner, statement}
 use Rattle.actx_ast.specs.Depth.{depth, depth_maybe, depth_init, depth_stmt, depth_catch, depth_clauses, depth_program}
@@ -33,10 +33,6 @@ let_said is p b = rw (laid_append false (spell_lets is) (t.Sign g.Semicolon ∷ 
 
 pub const_said : {side : Side} {most : Option ℕ} (is : ConstItems) → ConstsSaid side most is → StmtSaid side most (Const is)
 const_said is p b = rw (laid_append false (spell_consts is) (t.Sign g.Semicolon ∷ [])) (sp_const b (after false (spell_consts is)) (p false))
-
-abbrev CodeStmtSaid : Side → Option ℕ → Code → Type 0
-CodeStmtSaid side most (code None kind xs ss) = Unit {0}
-CodeStmtSaid side most (code (Some x) kind xs ss) = StmtSaid side most (Fun (code (Some x) kind xs ss))
 
 pub fun_said : {side : Side} {most : Option ℕ} {kind : FunctionKind} {h : List Lexeme} (x : List ℕ) (xs : List (List ℕ)) (ss : Stmts) → SpellsHead side kind (Some x) h → ParamsSaid side most xs → StmtsSaid side most ss → StmtSaid side most (Fun (code (Some x) kind xs ss))
 fun_said x xs ss h ps p b = sp_fun (function_again xs ss h ps p b)
