@@ -12,3 +12,6 @@ pub mod SpellRows
 pub mod SpellParts
 pub mod SpellStatements
 pub mod SpellAgain
+pub mod SpellWords
+pub mod SpellForms
+pub mod SpellLaws
