@@ -15,3 +15,4 @@ pub mod SpellAgain
 pub mod SpellWords
 pub mod SpellForms
 pub mod SpellLaws
+pub mod SpellExamples

@@ -1,0 +1,149 @@
+-- Some programs and the tokens that are printed for them.
+use Rattle.std.proofs.Common.{◌≡◌, true, false, [], ◌∷◌, None, refl, codes}
+use Rattle.actx_ast.specs.declared.operators.BinaryOp.TheVariants as o
+use Rattle.actx_ast.specs.declared.operators.Form.TheVariants as f
+use Rattle.actx_ast.specs.declared.operators.FunctionKind.TheVariants.{Normal, Arrow}
+use Rattle.actx_ast.specs.declared.operators.LogicOp.TheVariants.{And, Or, Coalesce}
+use Rattle.actx_ast.specs.declared.token.Keyword.{Keyword}
+use Rattle.actx_ast.specs.declared.token.Keyword.TheVariants as k
+use Rattle.actx_ast.specs.declared.token.Sign.{Sign}
+use Rattle.actx_ast.specs.declared.token.Sign.TheVariants as g
+use Rattle.actx_ast.specs.declared.token.TokenKind.{TokenKind}
+use Rattle.actx_ast.specs.declared.token.TokenKind.TheVariants as t
+use Rattle.actx_ast.specs.Layout.{laid}
+use Rattle.actx_ast.specs.Lexemes.{sign, keyword, lexeme}
+use Rattle.actx_ast.specs.Tree.{Expr, Stmts, Num, Text, Named, Binary, Logic, SetName, SetMember, Member, Call, Object, Function, Built, none, also, some_expr, Dot, Index, Fixed, Computed, no_properties, property, code, Block, If, Return, Value, no_stmt, end, next}
+use Rattle.actx_ast.specs.Spell.{spell, spell_program, inner}
+use Rattle.actx_ast.specs.Depth.{depth_program}
+
+abbrev plus : Expr → Expr → Expr
+plus e f = Binary o.Add e f
+
+abbrev times : Expr → Expr → Expr
+times e f = Binary o.Mul e f
+
+abbrev program : Expr → Stmts
+program e = next (Value e) end
+
+abbrev a : TokenKind
+a = t.Name (codes "a")
+
+abbrev b : TokenKind
+b = t.Name (codes "b")
+
+abbrev c : TokenKind
+c = t.Name (codes "c")
+
+abbrev va : Expr
+va = Named (codes "a")
+
+abbrev vb : Expr
+vb = Named (codes "b")
+
+abbrev vc : Expr
+vc = Named (codes "c")
+
+-- OPERATORS
+-- console.log(1 + 2 * 3);
+operators : spell_program (program (Built f.Log (also (plus (Num 1) (times (Num 2) (Num 3))) none))) ≡ t.Name (codes "console") ∷ t.Sign g.Dot ∷ t.Name (codes "log") ∷ t.Sign g.OpenParen ∷ t.Number 1 ∷ t.Sign g.Plus ∷ t.Number 2 ∷ t.Sign g.Star ∷ t.Number 3 ∷ t.Sign g.CloseParen ∷ t.Sign g.Semicolon ∷ []
+operators = refl
+
+-- (a + b) * c
+sum_first : spell inner (times (plus va vb) vc) 1 ≡ t.Sign g.OpenParen ∷ a ∷ t.Sign g.Plus ∷ b ∷ t.Sign g.CloseParen ∷ t.Sign g.Star ∷ c ∷ []
+sum_first = refl
+
+-- a + b + c and a + (b + c)
+left_sum : spell inner (plus (plus va vb) vc) 1 ≡ a ∷ t.Sign g.Plus ∷ b ∷ t.Sign g.Plus ∷ c ∷ []
+left_sum = refl
+
+right_sum : spell inner (plus va (plus vb vc)) 1 ≡ a ∷ t.Sign g.Plus ∷ t.Sign g.OpenParen ∷ b ∷ t.Sign g.Plus ∷ c ∷ t.Sign g.CloseParen ∷ []
+right_sum = refl
+
+-- CHAINS
+-- a || b || c and a || (b || c)
+or_chain : spell inner (Logic Or (Logic Or va vb) vc) 1 ≡ a ∷ t.Sign g.Or ∷ b ∷ t.Sign g.Or ∷ c ∷ []
+or_chain = refl
+
+or_inside : spell inner (Logic Or va (Logic Or vb vc)) 1 ≡ a ∷ t.Sign g.Or ∷ t.Sign g.OpenParen ∷ b ∷ t.Sign g.Or ∷ c ∷ t.Sign g.CloseParen ∷ []
+or_inside = refl
+
+-- (a ?? b) || c and (a || b) ?? c
+coalesce_in_or : spell inner (Logic Or (Logic Coalesce va vb) vc) 1 ≡ t.Sign g.OpenParen ∷ a ∷ t.Sign g.Coalesce ∷ b ∷ t.Sign g.CloseParen ∷ t.Sign g.Or ∷ c ∷ []
+coalesce_in_or = refl
+
+or_in_coalesce : spell inner (Logic Coalesce (Logic Or va vb) vc) 1 ≡ t.Sign g.OpenParen ∷ a ∷ t.Sign g.Or ∷ b ∷ t.Sign g.CloseParen ∷ t.Sign g.Coalesce ∷ c ∷ []
+or_in_coalesce = refl
+
+-- a && b || c and (a && b) ?? c
+and_in_or : spell inner (Logic Or (Logic And va vb) vc) 1 ≡ a ∷ t.Sign g.And ∷ b ∷ t.Sign g.Or ∷ c ∷ []
+and_in_or = refl
+
+and_in_coalesce : spell inner (Logic Coalesce (Logic And va vb) vc) 1 ≡ t.Sign g.OpenParen ∷ a ∷ t.Sign g.And ∷ b ∷ t.Sign g.CloseParen ∷ t.Sign g.Coalesce ∷ c ∷ []
+and_in_coalesce = refl
+
+-- THE START OF A STATEMENT
+-- ({});
+object_first : spell_program (program (Object no_properties)) ≡ t.Sign g.OpenParen ∷ t.Sign g.OpenBrace ∷ t.Sign g.CloseBrace ∷ t.Sign g.CloseParen ∷ t.Sign g.Semicolon ∷ []
+object_first = refl
+
+-- ({}).a = b;
+object_deep : spell_program (program (SetMember (Object no_properties) (Dot (codes "a")) vb)) ≡ t.Sign g.OpenParen ∷ t.Sign g.OpenBrace ∷ t.Sign g.CloseBrace ∷ t.Sign g.CloseParen ∷ t.Sign g.Dot ∷ a ∷ t.Sign g.Assign ∷ b ∷ t.Sign g.Semicolon ∷ []
+object_deep = refl
+
+-- ({} + a) * b; has no parentheses round the object, since those round the sum stand first
+object_inside : spell_program (program (times (plus (Object no_properties) va) vb)) ≡ t.Sign g.OpenParen ∷ t.Sign g.OpenBrace ∷ t.Sign g.CloseBrace ∷ t.Sign g.Plus ∷ a ∷ t.Sign g.CloseParen ∷ t.Sign g.Star ∷ b ∷ t.Sign g.Semicolon ∷ []
+object_inside = refl
+
+-- a = {};
+object_behind : spell_program (program (SetName (codes "a") (Object no_properties))) ≡ a ∷ t.Sign g.Assign ∷ t.Sign g.OpenBrace ∷ t.Sign g.CloseBrace ∷ t.Sign g.Semicolon ∷ []
+object_behind = refl
+
+-- (function () {})();
+function_first : spell_program (program (Call (Function (code None Normal [] end)) none)) ≡ t.Sign g.OpenParen ∷ t.Keyword k.Function ∷ t.Sign g.OpenParen ∷ t.Sign g.CloseParen ∷ t.Sign g.OpenBrace ∷ t.Sign g.CloseBrace ∷ t.Sign g.CloseParen ∷ t.Sign g.OpenParen ∷ t.Sign g.CloseParen ∷ t.Sign g.Semicolon ∷ []
+function_first = refl
+
+-- (a, b) => {};
+arrow_first : spell_program (program (Function (code None Arrow (codes "a" ∷ codes "b" ∷ []) end))) ≡ t.Sign g.OpenParen ∷ a ∷ t.Sign g.Comma ∷ b ∷ t.Sign g.CloseParen ∷ t.Sign g.Arrow ∷ t.Sign g.OpenBrace ∷ t.Sign g.CloseBrace ∷ t.Sign g.Semicolon ∷ []
+arrow_first = refl
+
+-- an arrow whose body is an object: () => { return {}; }
+arrow_object : spell inner (Function (code None Arrow [] (next (Return (some_expr (Object no_properties))) end))) 1 ≡ t.Sign g.OpenParen ∷ t.Sign g.CloseParen ∷ t.Sign g.Arrow ∷ t.Sign g.OpenBrace ∷ t.Keyword k.Return ∷ t.Sign g.OpenBrace ∷ t.Sign g.CloseBrace ∷ t.Sign g.Semicolon ∷ t.Sign g.CloseBrace ∷ []
+arrow_object = refl
+
+-- (() => {})()
+arrow_called : spell inner (Call (Function (code None Arrow [] end)) none) 1 ≡ t.Sign g.OpenParen ∷ t.Sign g.OpenParen ∷ t.Sign g.CloseParen ∷ t.Sign g.Arrow ∷ t.Sign g.OpenBrace ∷ t.Sign g.CloseBrace ∷ t.Sign g.CloseParen ∷ t.Sign g.OpenParen ∷ t.Sign g.CloseParen ∷ []
+arrow_called = refl
+
+-- KEYS
+-- a.return(b, c)
+reserved_key : spell inner (Call (Member va (Dot (codes "return"))) (also vb (also vc none))) 1 ≡ a ∷ t.Sign g.Dot ∷ t.Keyword k.Return ∷ t.Sign g.OpenParen ∷ b ∷ t.Sign g.Comma ∷ c ∷ t.Sign g.CloseParen ∷ []
+reserved_key = refl
+
+-- a.b and a[b]
+two_keys : spell inner (Member (Member va (Dot (codes "b"))) (Index vb)) 1 ≡ a ∷ t.Sign g.Dot ∷ b ∷ t.Sign g.OpenBracket ∷ b ∷ t.Sign g.CloseBracket ∷ []
+two_keys = refl
+
+-- {"a": a, [b]: c}
+properties : spell inner (Object (property (Fixed (codes "a")) va (property (Computed vb) vc no_properties))) 1 ≡ t.Sign g.OpenBrace ∷ t.Text (codes "a") ∷ t.Sign g.Colon ∷ a ∷ t.Sign g.Comma ∷ t.Sign g.OpenBracket ∷ b ∷ t.Sign g.CloseBracket ∷ t.Sign g.Colon ∷ c ∷ t.Sign g.CloseBrace ∷ []
+properties = refl
+
+-- LINES AND DEPTHS
+-- if (a) { b; }
+abbrev branch : Stmts
+branch = next (If va (Block (program vb)) no_stmt) end
+
+-- a line ends behind the brace and the semicolon
+lines : laid (spell_program branch) ≡ keyword k.If false ∷ sign g.OpenParen false ∷ lexeme a false ∷ sign g.CloseParen false ∷ sign g.OpenBrace false ∷ lexeme b true ∷ sign g.Semicolon false ∷ sign g.CloseBrace true ∷ []
+lines = refl
+
+-- the if, the block, the statement in it and its expression
+levels : depth_program branch ≡ 4
+levels = refl
+
+-- a * (b + c); is a statement, a product, parentheses, a sum and a name
+parentheses_count : depth_program (program (times va (plus vb vc))) ≡ 5
+parentheses_count = refl
+
+-- and a * b * c; a statement, two products and a name
+products : depth_program (program (times (times va vb) vc)) ≡ 4
+products = refl
