@@ -15,7 +15,7 @@ use Rattle.actx_ast.specs.Grammar.{SpellsHead, SpellsArrow, sp_normal, sp_normal
 use Rattle.actx_ast.specs.Spell.{Start, begins, begins_statement, within, wrapped, inner, statement}
 use Rattle.actx_ast.specs.Depth.{with_parens, depth, depth_list, depth_properties, depth_program}
 use Rattle.actx_ast.proofs.SpellPlaces.{May, head_starts}
-use Rattle.actx_ast.specs.Spell.{body} -- keep
+use Rattle.actx_ast.specs.Spell.{body}  -- keep
 
 pub record Bound (l d : ℕ) (e : Expr) (x : List Lexeme) : Type 0 where
   pub bare : (st : Start) (m : ℕ) → m ≤ l → May st (kinds x) → depth st e m ≤ d

@@ -1,13 +1,13 @@
 -- A tree's own tokens go no deeper than any that spell it.
 use Rattle.std.proofs.Common.{ℕ, suc, ◌≤◌, max, List, [], ◌∷◌, ◌++◌, Option, None, refl, arith, codes}
 use Rattle.actx_ast.specs.declared.operators.FunctionKind.{FunctionKind}
-use Rattle.actx_ast.specs.declared.operators.LogicOp.TheVariants.{And, Or, Coalesce}
+use Rattle.actx_ast.specs.declared.operators.LogicOp.TheVariants.{Or, Coalesce}
 use Rattle.actx_ast.specs.declared.side.Side.{Side}
 use Rattle.actx_ast.specs.declared.token.Sign.TheVariants as g
 use Rattle.actx_ast.specs.declared.token.TokenKind.TheVariants as t
 use Rattle.actx_ast.specs.Forms.{level_of, sign_of}
 use Rattle.actx_ast.specs.Lexemes.{Lexeme, sign, lexeme}
-use Rattle.actx_ast.specs.Tree.{Expr, Exprs, MaybeExpr, Key, PropKey, Properties, Code, LetItems, ConstItems, Init, Stmt, Catch, Clauses, Stmts, Logic, Function, none, also, some_expr, Dot, no_properties, property, code, no_lets, let_item, no_consts, const_item, Return, end, next}
+use Rattle.actx_ast.specs.Tree.{Expr, Exprs, MaybeExpr, Key, PropKey, Properties, Code, LetItems, ConstItems, Init, Stmt, Catch, Clauses, Stmts, Logic, Function, none, also, some_expr, no_properties, property, code, no_lets, let_item, no_consts, const_item, Return, end, next}
 use Rattle.actx_ast.specs.Grammar.{with_last, with_let, with_const, with_property, StartsStatement, SpellsMethodHead, Spells, SpellsOr, SpellsCoalesce, SpellsKey, SpellsArguments, SpellsList, SpellsPropKey, SpellsProperty, SpellsProperties, SpellsSome, SpellsFunction, SpellsLet, SpellsLets, SpellsConsts, SpellsMaybe, SpellsInit, SpellsStmt, SpellsBlock, SpellsBody, SpellsCatch, SpellsClauses, SpellsStmts, sp_method_head, sp_generator_head, sp_async_head, sp_arrow, sp_short_arrow, sp_yield_nothing, sp_yield, sp_yield_all, sp_set_name, sp_set_member, sp_change, sp_choice, sp_or, sp_coalesce, sp_and, sp_binary, sp_unary, sp_await, sp_bump_before, sp_bump_behind, sp_member, sp_call, sp_form, sp_call_with, sp_name, sp_number, sp_text, sp_true, sp_false, sp_null, sp_undefined, sp_this, sp_object, sp_function, sp_paren, sp_first_or, sp_more_or, sp_first_coalesce, sp_more_coalesce, sp_dot, sp_index, sp_no_arguments, sp_arguments, sp_arguments_comma, sp_one, sp_more, sp_fixed, sp_computed, sp_key_value, sp_name_alone, sp_undefined_alone, sp_method, sp_no_properties, sp_properties, sp_properties_comma, sp_one_property, sp_more_properties, sp_code, sp_let_alone, sp_let_value, sp_one_let, sp_more_lets, sp_one_const, sp_more_consts, sp_absent, sp_present, sp_init_nothing, sp_init_let, sp_init_const, sp_init_value, sp_let, sp_const, sp_fun, sp_block, sp_if, sp_if_else, sp_while, sp_do_while, sp_for, sp_for_of_let, sp_for_of_const, sp_break, sp_continue, sp_return_nothing, sp_return, sp_throw, sp_try_catch, sp_try_finally, sp_try_both, sp_value, sp_empty, sp_switch, sp_braces, sp_body, sp_catch, sp_catch_name, sp_no_clauses, sp_default, sp_case, sp_end, sp_next}
 use Rattle.actx_ast.specs.Spell.{left_level, inner, statement}
 use Rattle.actx_ast.specs.Depth.{depth, depth_key, depth_list, depth_prop_key, depth_properties, depth_maybe, depth_lets, depth_consts, depth_init, depth_stmt, depth_catch, depth_clauses, depth_program}

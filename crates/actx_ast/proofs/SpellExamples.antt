@@ -4,15 +4,13 @@ use Rattle.actx_ast.specs.declared.operators.BinaryOp.TheVariants as o
 use Rattle.actx_ast.specs.declared.operators.Form.TheVariants as f
 use Rattle.actx_ast.specs.declared.operators.FunctionKind.TheVariants.{Normal, Arrow}
 use Rattle.actx_ast.specs.declared.operators.LogicOp.TheVariants.{And, Or, Coalesce}
-use Rattle.actx_ast.specs.declared.token.Keyword.{Keyword}
 use Rattle.actx_ast.specs.declared.token.Keyword.TheVariants as k
-use Rattle.actx_ast.specs.declared.token.Sign.{Sign}
 use Rattle.actx_ast.specs.declared.token.Sign.TheVariants as g
 use Rattle.actx_ast.specs.declared.token.TokenKind.{TokenKind}
 use Rattle.actx_ast.specs.declared.token.TokenKind.TheVariants as t
 use Rattle.actx_ast.specs.Layout.{laid}
 use Rattle.actx_ast.specs.Lexemes.{sign, keyword, lexeme}
-use Rattle.actx_ast.specs.Tree.{Expr, Stmts, Num, Text, Named, Binary, Logic, SetName, SetMember, Member, Call, Object, Function, Built, none, also, some_expr, Dot, Index, Fixed, Computed, no_properties, property, code, Block, If, Return, Value, no_stmt, end, next}
+use Rattle.actx_ast.specs.Tree.{Expr, Stmts, Num, Named, Binary, Logic, SetName, SetMember, Member, Call, Object, Function, Built, none, also, some_expr, Dot, Index, Fixed, Computed, no_properties, property, code, Block, If, Return, Value, no_stmt, end, next}
 use Rattle.actx_ast.specs.Spell.{spell, spell_program, inner}
 use Rattle.actx_ast.specs.Depth.{depth_program}
 

@@ -4,9 +4,7 @@ use Rattle.actx_ast.specs.declared.operators.FunctionKind.{FunctionKind}
 use Rattle.actx_ast.specs.declared.operators.FunctionKind.TheVariants.{Normal, Arrow, Generator, Async, AsyncArrow}
 use Rattle.actx_ast.specs.declared.side.Side.{Side}
 use Rattle.actx_ast.specs.declared.side.Side.TheVariants.{Source}
-use Rattle.actx_ast.specs.declared.token.Keyword.{Keyword}
 use Rattle.actx_ast.specs.declared.token.Keyword.TheVariants as k
-use Rattle.actx_ast.specs.declared.token.Sign.{Sign}
 use Rattle.actx_ast.specs.declared.token.Sign.TheVariants as g
 use Rattle.actx_ast.specs.declared.token.TokenKind.{TokenKind}
 use Rattle.actx_ast.specs.declared.token.TokenKind.TheVariants as t
@@ -20,7 +18,6 @@ use Rattle.actx_ast.specs.Depth.{depth_program}
 use Rattle.actx_ast.proofs.SpellLaid.{after, laid_append, after_append, same_line, laid_round, laid_braced, leveled, parted}
 use Rattle.actx_ast.proofs.SpellSaid.{Exact, StmtsSaid}
 use Rattle.actx_ast.proofs.SpellLasts.{no_name, names_last, has_names}
-use Rattle.actx_ast.specs.Spell.{body} -- keep
 
 abbrev NamesSaid : Side → List (List ℕ) → Type 0
 NamesSaid side xs = (b : Bool) → SpellsNames side xs (laid_from b (spell_names xs))

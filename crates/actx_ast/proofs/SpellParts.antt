@@ -3,14 +3,13 @@ use Rattle.std.proofs.Common.{◌≡◌, ℕ, max, false, List, ◌∷◌, Optio
 use Rattle.actx_ast.specs.declared.operators.FunctionKind.{FunctionKind}
 use Rattle.actx_ast.specs.declared.operators.FunctionKind.TheVariants.{Normal, Generator, Async}
 use Rattle.actx_ast.specs.declared.side.Side.{Side}
-use Rattle.actx_ast.specs.declared.token.Sign.{Sign}
 use Rattle.actx_ast.specs.declared.token.Sign.TheVariants as g
 use Rattle.actx_ast.specs.declared.token.TokenKind.{TokenKind}
 use Rattle.actx_ast.specs.declared.token.TokenKind.TheVariants as t
 use Rattle.actx_ast.specs.Lexemes.{Lexeme, lexeme}
 use Rattle.actx_ast.specs.Names.{IsBinding, word_of, IsKey, key_of}
 use Rattle.actx_ast.specs.Words.{IsName, HasForm}
-use Rattle.actx_ast.specs.Tree.{Expr, Exprs, MaybeExpr, PropKey, Properties, LetItems, ConstItems, Stmts, Text, Function, none, also, no_expr, some_expr, Dot, Index, Fixed, Computed, no_properties, property, code, no_lets, let_item, no_consts, const_item}
+use Rattle.actx_ast.specs.Tree.{Expr, Exprs, MaybeExpr, PropKey, Properties, LetItems, ConstItems, Stmts, Function, none, also, no_expr, some_expr, Dot, Index, Fixed, Computed, no_properties, property, code, no_lets, let_item, no_consts, const_item}
 use Rattle.actx_ast.specs.Grammar.{Allows, count, with_last, with_let, with_const, with_property, SpellsMethodHead, sp_normal, sp_generator, sp_async, sp_method_head, sp_generator_head, sp_async_head, sp_dot, sp_index, sp_arguments, sp_one, sp_more, sp_fixed, sp_computed, sp_key_value, sp_properties, sp_one_property, sp_more_properties, sp_let_alone, sp_let_value, sp_one_let, sp_more_lets, sp_one_const, sp_more_consts}
 use Rattle.actx_ast.specs.Spell.{word_token, spell, spell_list, spell_prop_key, spell_properties, spell_let, spell_lets, spell_consts, inner}
 use Rattle.actx_ast.specs.Depth.{depth, depth_list, depth_prop_key, depth_properties, depth_maybe, depth_lets, depth_consts}

@@ -5,15 +5,13 @@ use Rattle.actx_ast.specs.declared.operators.BinaryOp.TheVariants as o
 use Rattle.actx_ast.specs.declared.operators.Form.{Form}
 use Rattle.actx_ast.specs.declared.operators.Form.TheVariants as f
 use Rattle.actx_ast.specs.declared.operators.FunctionKind.{FunctionKind}
-use Rattle.actx_ast.specs.declared.operators.FunctionKind.TheVariants.{Arrow, Async, AsyncArrow}
+use Rattle.actx_ast.specs.declared.operators.FunctionKind.TheVariants.{Arrow, AsyncArrow}
 use Rattle.actx_ast.specs.declared.operators.LogicOp.{LogicOp}
 use Rattle.actx_ast.specs.declared.operators.LogicOp.TheVariants.{And, Or, Coalesce}
 use Rattle.actx_ast.specs.declared.operators.UnaryOp.{UnaryOp}
 use Rattle.actx_ast.specs.declared.operators.UnaryOp.TheVariants as u
 use Rattle.actx_ast.specs.declared.side.Side.{Side}
-use Rattle.actx_ast.specs.declared.token.Keyword.{Keyword}
 use Rattle.actx_ast.specs.declared.token.Keyword.TheVariants as k
-use Rattle.actx_ast.specs.declared.token.Sign.{Sign}
 use Rattle.actx_ast.specs.declared.token.Sign.TheVariants as g
 use Rattle.actx_ast.specs.declared.token.TokenKind.{TokenKind}
 use Rattle.actx_ast.specs.declared.token.TokenKind.TheVariants as t
@@ -22,7 +20,7 @@ use Rattle.actx_ast.specs.Lexemes.{Lexeme, kinds}
 use Rattle.actx_ast.specs.Tree.{Expr, Key, Num, Text, Truth, Null, Undefined, This, Named, Unary, Binary, Logic, Choice, SetName, SetMember, Change, Bump, Member, Call, Object, Function, Yield, YieldAll, Await, Built, also, no_expr, some_expr, Dot, Index, code}
 use Rattle.actx_ast.specs.Grammar.{IsStatementStart, IsBodyStart, SpellsHead, sp_normal, sp_normal_named, sp_generator, sp_generator_named, sp_async, sp_async_named}
 use Rattle.actx_ast.specs.Spell.{Start, within, round, braced, in_parens, spell_head, wrapped, logic_sign, logic_level, left_level, right_level, change_sign, spell, spell_key, spell_list, spell_program, inner, statement}
-use Rattle.actx_ast.specs.Spell.{body} -- keep
+use Rattle.actx_ast.specs.Spell.{body}  -- keep
 
 -- the tokens may stand at the place as they are
 abbrev pub May : Start → List TokenKind → Type 0

@@ -8,7 +8,6 @@ use Rattle.actx_ast.specs.declared.operators.LogicOp.TheVariants.{And}
 use Rattle.actx_ast.specs.declared.operators.UnaryOp.{UnaryOp}
 use Rattle.actx_ast.specs.declared.side.Side.{Side}
 use Rattle.actx_ast.specs.declared.side.Side.TheVariants.{Source, Plain}
-use Rattle.actx_ast.specs.declared.token.Keyword.{Keyword}
 use Rattle.actx_ast.specs.declared.token.Keyword.TheVariants as k
 use Rattle.actx_ast.specs.declared.token.Sign.{Sign}
 use Rattle.actx_ast.specs.declared.token.Sign.TheVariants as g
@@ -17,7 +16,7 @@ use Rattle.actx_ast.specs.Forms.{unary_word, level_of, sign_of, change_of, bump_
 use Rattle.actx_ast.specs.Layout.{ends_line, laid_from}
 use Rattle.actx_ast.specs.Names.{IsBinding, IsReference}
 use Rattle.actx_ast.specs.Words.{greatest_number, HasForm}
-use Rattle.actx_ast.specs.Tree.{Expr, Exprs, Key, Properties, Num, Text, Truth, Null, Undefined, This, Named, Unary, Binary, Logic, Choice, SetName, SetMember, Change, Bump, Member, Call, Object, Yield, YieldAll, Await, Built, also, no_expr, some_expr, Dot}
+use Rattle.actx_ast.specs.Tree.{Expr, Exprs, Key, Properties, Num, Text, Truth, Null, Undefined, This, Named, Unary, Binary, Logic, Choice, SetName, SetMember, Change, Bump, Member, Call, Object, Yield, YieldAll, Await, Built, also, no_expr, some_expr}
 use Rattle.actx_ast.specs.Grammar.{count, Spells, sp_yield_nothing, sp_yield, sp_yield_all, sp_set_name, sp_set_member, sp_change, sp_choice, sp_and, sp_binary, sp_unary, sp_await, sp_bump_before, sp_bump_behind, sp_member, sp_call, sp_form, sp_call_with, sp_name, sp_number, sp_text, sp_true, sp_false, sp_null, sp_undefined, sp_this, sp_object}
 use Rattle.actx_ast.specs.Spell.{Start, begins, round, braced, in_parens, change_sign, spell, spell_key, spell_list, spell_properties, inner}
 use Rattle.actx_ast.specs.Depth.{with_parens, depth, depth_key, depth_list, depth_properties}

@@ -3,9 +3,7 @@ use Rattle.std.proofs.Common.{◌≡◌, ℕ, ◌≤◌, max, Bool, true, false,
 use Rattle.actx_ast.specs.declared.operators.FunctionKind.{FunctionKind}
 use Rattle.actx_ast.specs.declared.side.Side.{Side}
 use Rattle.actx_ast.specs.declared.side.Side.TheVariants.{Source, Plain}
-use Rattle.actx_ast.specs.declared.token.Keyword.{Keyword}
 use Rattle.actx_ast.specs.declared.token.Keyword.TheVariants as k
-use Rattle.actx_ast.specs.declared.token.Sign.{Sign}
 use Rattle.actx_ast.specs.declared.token.Sign.TheVariants as g
 use Rattle.actx_ast.specs.declared.token.TokenKind.{TokenKind}
 use Rattle.actx_ast.specs.declared.token.TokenKind.TheVariants as t

@@ -6,7 +6,6 @@ use Rattle.actx_ast.specs.declared.operators.Form.TheVariants as f
 use Rattle.actx_ast.specs.declared.operators.UnaryOp.{UnaryOp}
 use Rattle.actx_ast.specs.declared.operators.UnaryOp.TheVariants as u
 use Rattle.actx_ast.specs.declared.side.Side.{Side}
-use Rattle.actx_ast.specs.declared.token.Sign.{Sign}
 use Rattle.actx_ast.specs.declared.token.Sign.TheVariants as g
 use Rattle.actx_ast.specs.declared.token.TokenKind.{TokenKind}
 use Rattle.actx_ast.specs.declared.token.TokenKind.TheVariants as t
@@ -14,7 +13,6 @@ use Rattle.actx_data.specs.declared.shown.ErrorName.{ErrorName}
 use Rattle.actx_data.specs.declared.shown.ErrorName.TheVariants as n
 use Rattle.actx_ast.specs.Forms.{unary_word, error_text, form_words, HasWords}
 use Rattle.actx_ast.specs.Words.{IsName, HasForm}
-use Rattle.actx_ast.specs.Tree.{Dot}
 use Rattle.actx_ast.proofs.SpellNames.{plain_name}
 
 abbrev pub Formed : List TokenKind → Type 0

@@ -1,6 +1,6 @@
 -- How deep the tokens of a tree go, as the grammar counts: a node is one deeper than its parent, parentheses are a level, and a
 -- list has the greatest depth of its parts.
-use Rattle.std.specs.Prelude.{ℕ, suc, max, ◌≤◌, List, Bool, true, false, nat_lt, Option, Some, None}
+use Rattle.std.specs.Prelude.{ℕ, suc, max, ◌≤◌, List, Bool, true, false, nat_lt, Option}
 use Rattle.actx_ast.specs.declared.operators.Form.TheVariants.{CallWith}
 use Rattle.actx_ast.specs.declared.side.Side.{Side}
 use Rattle.actx_ast.specs.Forms.{level_of}
@@ -8,7 +8,7 @@ use Rattle.actx_ast.specs.Grammar.{SpellsStmts}
 use Rattle.actx_ast.specs.Layout.{laid}
 use Rattle.actx_ast.specs.Lexemes.{Lexeme}
 use Rattle.actx_ast.specs.Spell.{Start, inner, statement, begins, within, wrapped, logic_level, left_level, right_level, spell_program}
-use Rattle.actx_ast.specs.Tree.{Expr, Num, Text, Truth, Null, Undefined, This, Named, Unary, Binary, Logic, Choice, SetName, SetMember, Change, Bump, Member, Call, Object, Function, Yield, YieldAll, Await, Built, Exprs, none, also, MaybeExpr, no_expr, some_expr, Key, Dot, Index, PropKey, Fixed, Computed, Properties, no_properties, property, Code, code, LetItems, no_lets, let_item, ConstItems, no_consts, const_item, Init, init_nothing, init_let, init_const, init_value, Stmt, Let, Const, Fun, Block, If, While, DoWhile, For, ForOf, ForAwait, Break, Continue, Return, Throw, Try, Value, Empty, Switch, MaybeStmt, no_stmt, some_stmt, Catch, no_catch, catch, Last, no_last, last, Clauses, no_clauses, clause, Stmts, end, next}
+use Rattle.actx_ast.specs.Tree.{Expr, Num, Text, Truth, Null, Undefined, This, Named, Unary, Binary, Logic, Choice, SetName, SetMember, Change, Bump, Member, Call, Object, Function, Yield, YieldAll, Await, Built, Exprs, none, also, MaybeExpr, no_expr, some_expr, Key, Dot, Index, PropKey, Fixed, Computed, Properties, no_properties, property, code, LetItems, no_lets, let_item, ConstItems, no_consts, const_item, Init, init_nothing, init_let, init_const, init_value, Stmt, Let, Const, Fun, Block, If, While, DoWhile, For, ForOf, ForAwait, Break, Continue, Return, Throw, Try, Value, Empty, Switch, MaybeStmt, no_stmt, some_stmt, Catch, no_catch, catch, Last, no_last, last, Clauses, no_clauses, clause, Stmts, end, next}
 
 -- parentheses are a level
 abbrev pub with_parens : Bool → ℕ → ℕ
