@@ -86,8 +86,8 @@ IsBody _ = Unit {0}
 
 -- whether a statement ends in an if without else, so that an else behind it would belong to that
 abbrev pub ends_open : Stmt → Bool
-ends_open (If e then no_stmt) = true
-ends_open (If e then (some_stmt other)) = ends_open other
+ends_open (If e branch no_stmt) = true
+ends_open (If e branch (some_stmt other)) = ends_open other
 ends_open (While e body) = ends_open body
 ends_open (For i test update body) = ends_open body
 ends_open (ForOf constant x over body) = ends_open body

@@ -8,3 +8,10 @@ pub mod Spell
 pub mod Tree
 pub mod View
 pub mod Words
+pub mod ParserState
+pub mod ParserOperands
+pub mod ParserFunctions
+pub mod Parser
+pub mod Exact
+pub mod Nodes
+pub mod Static
