@@ -12,10 +12,9 @@ use Rattle.actx_ast.specs.Forms.{HasWords}
 use Rattle.actx_ast.specs.Lexemes.{Lexeme, sign, kinds}
 use Rattle.actx_ast.specs.Tree.{Expr, Exprs, Properties, Stmts, Object, Function, Built, code}
 use Rattle.actx_ast.specs.Grammar.{SpellsHead, SpellsArrow, sp_normal, sp_normal_named, sp_generator, sp_generator_named, sp_async, sp_async_named, sp_arrow_head, sp_async_arrow_head}
-use Rattle.actx_ast.specs.Spell.{Start, begins, begins_statement, within, wrapped, inner, statement}
+use Rattle.actx_ast.specs.Spell.{Start, begins, begins_statement, within, wrapped, inner, statement, body}
 use Rattle.actx_ast.specs.Depth.{with_parens, depth, depth_list, depth_properties, depth_program}
 use Rattle.actx_ast.proofs.SpellPlaces.{May, head_starts}
-use Rattle.actx_ast.specs.Spell.{body}  -- keep
 
 pub record Bound (l d : ℕ) (e : Expr) (x : List Lexeme) : Type 0 where
   pub bare : (st : Start) (m : ℕ) → m ≤ l → May st (kinds x) → depth st e m ≤ d

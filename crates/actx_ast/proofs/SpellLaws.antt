@@ -1,4 +1,5 @@
--- THE LAWS of printed trees.
+-- THE LAWS of printed trees. SpellAgain: a tree's own tokens spell it within their own depth. SpellDepths: that depth is not
+-- greater than any within which some tokens spell the tree. SpellDeeper leads from the one depth to the other.
 use Rattle.std.proofs.Common.{ℕ, ◌≤◌, false, Option, subst}
 use Rattle.actx_ast.specs.declared.side.Side.{Side}
 use Rattle.actx_ast.specs.Layout.{laid}

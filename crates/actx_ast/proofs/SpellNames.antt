@@ -10,13 +10,13 @@ use Rattle.actx_ast.specs.declared.token.TokenKind.TheVariants as t
 use Rattle.actx_ast.specs.Names.{word_of, key_of}
 use Rattle.actx_ast.specs.Words.{keyword_text, keywords, is_name_start, is_name_part, IsName, units_of, word_units, HasForm}
 use Rattle.actx_ast.specs.Spell.{word_among, word_token}
-use Rattle.std.specs.Cmp.Lexicographic.{pointwise, same_text}  -- keep
-use Rattle.ucd_table.specs.Rows.{Range, in_ranges}  -- keep
-use Rattle.ucd_derived.specs.XidStartRanges.{xid_start_ranges}  -- keep
-use Rattle.ucd_derived.specs.XidContinueRanges.{xid_continue_ranges}  -- keep
-use Rattle.unicode_ident.specs.Ident.{is_xid_start, is_xid_continue}  -- keep
-use Rattle.unicode_ident.proofs.IdentLemmas.{is_xid_start-ascii, is_xid_continue-ascii}  -- keep
-use Rattle.std.specs.Char.{is_ascii_alphabetic, is_ascii_alphanumeric}  -- keep
+use Rattle.std.specs.Cmp.Lexicographic.{pointwise, same_text}
+use Rattle.ucd_table.specs.Rows.{Range, in_ranges}
+use Rattle.ucd_derived.specs.XidStartRanges.{xid_start_ranges}
+use Rattle.ucd_derived.specs.XidContinueRanges.{xid_continue_ranges}
+use Rattle.unicode_ident.specs.Ident.{is_xid_start, is_xid_continue}
+use Rattle.unicode_ident.proofs.IdentLemmas.{is_xid_start-ascii, is_xid_continue-ascii}
+use Rattle.std.specs.Char.{is_ascii_alphabetic, is_ascii_alphanumeric}
 
 -- WORDS BEHIND A DOT
 word_found : (w : Keyword) (ws : List Keyword) (x : List ℕ) (b : Bool) → pointwise ◌==◌ (keyword_text w) x ≡ b → word_of (word_among ws x) ≡ Some x → word_of (if b then t.Keyword w else word_among ws x) ≡ Some x

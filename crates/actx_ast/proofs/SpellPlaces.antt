@@ -19,8 +19,7 @@ use Rattle.actx_ast.specs.Forms.{unary_word, level_of, sign_of, bump_sign, form_
 use Rattle.actx_ast.specs.Lexemes.{Lexeme, kinds}
 use Rattle.actx_ast.specs.Tree.{Expr, Key, Num, Text, Truth, Null, Undefined, This, Named, Unary, Binary, Logic, Choice, SetName, SetMember, Change, Bump, Member, Call, Object, Function, Yield, YieldAll, Await, Built, also, no_expr, some_expr, Dot, Index, code}
 use Rattle.actx_ast.specs.Grammar.{IsStatementStart, IsBodyStart, SpellsHead, sp_normal, sp_normal_named, sp_generator, sp_generator_named, sp_async, sp_async_named}
-use Rattle.actx_ast.specs.Spell.{Start, within, round, braced, in_parens, spell_head, wrapped, logic_sign, logic_level, left_level, right_level, change_sign, spell, spell_key, spell_list, spell_program, inner, statement}
-use Rattle.actx_ast.specs.Spell.{body}  -- keep
+use Rattle.actx_ast.specs.Spell.{Start, within, round, braced, in_parens, spell_head, wrapped, logic_sign, logic_level, left_level, right_level, change_sign, spell, spell_key, spell_list, spell_program, inner, statement, body}
 
 -- the tokens may stand at the place as they are
 abbrev pub May : Start → List TokenKind → Type 0
