@@ -23,23 +23,23 @@ times e f = Binary o.Mul e f
 abbrev program : Expr → Stmts
 program e = next (Value e) end
 
-abbrev a : TokenKind
-a = t.Name (codes "a")
+abbrev name_a : TokenKind
+name_a = t.Name (codes "a")
 
-abbrev b : TokenKind
-b = t.Name (codes "b")
+abbrev name_b : TokenKind
+name_b = t.Name (codes "b")
 
-abbrev c : TokenKind
-c = t.Name (codes "c")
+abbrev name_c : TokenKind
+name_c = t.Name (codes "c")
 
-abbrev va : Expr
-va = Named (codes "a")
+abbrev tree_a : Expr
+tree_a = Named (codes "a")
 
-abbrev vb : Expr
-vb = Named (codes "b")
+abbrev tree_b : Expr
+tree_b = Named (codes "b")
 
-abbrev vc : Expr
-vc = Named (codes "c")
+abbrev tree_c : Expr
+tree_c = Named (codes "c")
 
 -- OPERATORS
 -- console.log(1 + 2 * 3);
@@ -47,36 +47,36 @@ operators : spell_program (program (Built f.Log (also (plus (Num 1) (times (Num 
 operators = refl
 
 -- (a + b) * c
-sum_first : spell inner (times (plus va vb) vc) 1 ≡ t.Sign g.OpenParen ∷ a ∷ t.Sign g.Plus ∷ b ∷ t.Sign g.CloseParen ∷ t.Sign g.Star ∷ c ∷ []
+sum_first : spell inner (times (plus tree_a tree_b) tree_c) 1 ≡ t.Sign g.OpenParen ∷ name_a ∷ t.Sign g.Plus ∷ name_b ∷ t.Sign g.CloseParen ∷ t.Sign g.Star ∷ name_c ∷ []
 sum_first = refl
 
 -- a + b + c and a + (b + c)
-left_sum : spell inner (plus (plus va vb) vc) 1 ≡ a ∷ t.Sign g.Plus ∷ b ∷ t.Sign g.Plus ∷ c ∷ []
+left_sum : spell inner (plus (plus tree_a tree_b) tree_c) 1 ≡ name_a ∷ t.Sign g.Plus ∷ name_b ∷ t.Sign g.Plus ∷ name_c ∷ []
 left_sum = refl
 
-right_sum : spell inner (plus va (plus vb vc)) 1 ≡ a ∷ t.Sign g.Plus ∷ t.Sign g.OpenParen ∷ b ∷ t.Sign g.Plus ∷ c ∷ t.Sign g.CloseParen ∷ []
+right_sum : spell inner (plus tree_a (plus tree_b tree_c)) 1 ≡ name_a ∷ t.Sign g.Plus ∷ t.Sign g.OpenParen ∷ name_b ∷ t.Sign g.Plus ∷ name_c ∷ t.Sign g.CloseParen ∷ []
 right_sum = refl
 
 -- CHAINS
 -- a || b || c and a || (b || c)
-or_chain : spell inner (Logic Or (Logic Or va vb) vc) 1 ≡ a ∷ t.Sign g.Or ∷ b ∷ t.Sign g.Or ∷ c ∷ []
+or_chain : spell inner (Logic Or (Logic Or tree_a tree_b) tree_c) 1 ≡ name_a ∷ t.Sign g.Or ∷ name_b ∷ t.Sign g.Or ∷ name_c ∷ []
 or_chain = refl
 
-or_inside : spell inner (Logic Or va (Logic Or vb vc)) 1 ≡ a ∷ t.Sign g.Or ∷ t.Sign g.OpenParen ∷ b ∷ t.Sign g.Or ∷ c ∷ t.Sign g.CloseParen ∷ []
+or_inside : spell inner (Logic Or tree_a (Logic Or tree_b tree_c)) 1 ≡ name_a ∷ t.Sign g.Or ∷ t.Sign g.OpenParen ∷ name_b ∷ t.Sign g.Or ∷ name_c ∷ t.Sign g.CloseParen ∷ []
 or_inside = refl
 
 -- (a ?? b) || c and (a || b) ?? c
-coalesce_in_or : spell inner (Logic Or (Logic Coalesce va vb) vc) 1 ≡ t.Sign g.OpenParen ∷ a ∷ t.Sign g.Coalesce ∷ b ∷ t.Sign g.CloseParen ∷ t.Sign g.Or ∷ c ∷ []
+coalesce_in_or : spell inner (Logic Or (Logic Coalesce tree_a tree_b) tree_c) 1 ≡ t.Sign g.OpenParen ∷ name_a ∷ t.Sign g.Coalesce ∷ name_b ∷ t.Sign g.CloseParen ∷ t.Sign g.Or ∷ name_c ∷ []
 coalesce_in_or = refl
 
-or_in_coalesce : spell inner (Logic Coalesce (Logic Or va vb) vc) 1 ≡ t.Sign g.OpenParen ∷ a ∷ t.Sign g.Or ∷ b ∷ t.Sign g.CloseParen ∷ t.Sign g.Coalesce ∷ c ∷ []
+or_in_coalesce : spell inner (Logic Coalesce (Logic Or tree_a tree_b) tree_c) 1 ≡ t.Sign g.OpenParen ∷ name_a ∷ t.Sign g.Or ∷ name_b ∷ t.Sign g.CloseParen ∷ t.Sign g.Coalesce ∷ name_c ∷ []
 or_in_coalesce = refl
 
 -- a && b || c and (a && b) ?? c
-and_in_or : spell inner (Logic Or (Logic And va vb) vc) 1 ≡ a ∷ t.Sign g.And ∷ b ∷ t.Sign g.Or ∷ c ∷ []
+and_in_or : spell inner (Logic Or (Logic And tree_a tree_b) tree_c) 1 ≡ name_a ∷ t.Sign g.And ∷ name_b ∷ t.Sign g.Or ∷ name_c ∷ []
 and_in_or = refl
 
-and_in_coalesce : spell inner (Logic Coalesce (Logic And va vb) vc) 1 ≡ t.Sign g.OpenParen ∷ a ∷ t.Sign g.And ∷ b ∷ t.Sign g.CloseParen ∷ t.Sign g.Coalesce ∷ c ∷ []
+and_in_coalesce : spell inner (Logic Coalesce (Logic And tree_a tree_b) tree_c) 1 ≡ t.Sign g.OpenParen ∷ name_a ∷ t.Sign g.And ∷ name_b ∷ t.Sign g.CloseParen ∷ t.Sign g.Coalesce ∷ name_c ∷ []
 and_in_coalesce = refl
 
 -- THE START OF A STATEMENT
@@ -85,15 +85,15 @@ object_first : spell_program (program (Object no_properties)) ≡ t.Sign g.OpenP
 object_first = refl
 
 -- ({}).a = b;
-object_deep : spell_program (program (SetMember (Object no_properties) (Dot (codes "a")) vb)) ≡ t.Sign g.OpenParen ∷ t.Sign g.OpenBrace ∷ t.Sign g.CloseBrace ∷ t.Sign g.CloseParen ∷ t.Sign g.Dot ∷ a ∷ t.Sign g.Assign ∷ b ∷ t.Sign g.Semicolon ∷ []
+object_deep : spell_program (program (SetMember (Object no_properties) (Dot (codes "a")) tree_b)) ≡ t.Sign g.OpenParen ∷ t.Sign g.OpenBrace ∷ t.Sign g.CloseBrace ∷ t.Sign g.CloseParen ∷ t.Sign g.Dot ∷ name_a ∷ t.Sign g.Assign ∷ name_b ∷ t.Sign g.Semicolon ∷ []
 object_deep = refl
 
 -- ({} + a) * b; has no parentheses round the object, since those round the sum stand first
-object_inside : spell_program (program (times (plus (Object no_properties) va) vb)) ≡ t.Sign g.OpenParen ∷ t.Sign g.OpenBrace ∷ t.Sign g.CloseBrace ∷ t.Sign g.Plus ∷ a ∷ t.Sign g.CloseParen ∷ t.Sign g.Star ∷ b ∷ t.Sign g.Semicolon ∷ []
+object_inside : spell_program (program (times (plus (Object no_properties) tree_a) tree_b)) ≡ t.Sign g.OpenParen ∷ t.Sign g.OpenBrace ∷ t.Sign g.CloseBrace ∷ t.Sign g.Plus ∷ name_a ∷ t.Sign g.CloseParen ∷ t.Sign g.Star ∷ name_b ∷ t.Sign g.Semicolon ∷ []
 object_inside = refl
 
 -- a = {};
-object_behind : spell_program (program (SetName (codes "a") (Object no_properties))) ≡ a ∷ t.Sign g.Assign ∷ t.Sign g.OpenBrace ∷ t.Sign g.CloseBrace ∷ t.Sign g.Semicolon ∷ []
+object_behind : spell_program (program (SetName (codes "a") (Object no_properties))) ≡ name_a ∷ t.Sign g.Assign ∷ t.Sign g.OpenBrace ∷ t.Sign g.CloseBrace ∷ t.Sign g.Semicolon ∷ []
 object_behind = refl
 
 -- (function () {})();
@@ -101,7 +101,7 @@ function_first : spell_program (program (Call (Function (code None Normal [] end
 function_first = refl
 
 -- (a, b) => {};
-arrow_first : spell_program (program (Function (code None Arrow (codes "a" ∷ codes "b" ∷ []) end))) ≡ t.Sign g.OpenParen ∷ a ∷ t.Sign g.Comma ∷ b ∷ t.Sign g.CloseParen ∷ t.Sign g.Arrow ∷ t.Sign g.OpenBrace ∷ t.Sign g.CloseBrace ∷ t.Sign g.Semicolon ∷ []
+arrow_first : spell_program (program (Function (code None Arrow (codes "a" ∷ codes "b" ∷ []) end))) ≡ t.Sign g.OpenParen ∷ name_a ∷ t.Sign g.Comma ∷ name_b ∷ t.Sign g.CloseParen ∷ t.Sign g.Arrow ∷ t.Sign g.OpenBrace ∷ t.Sign g.CloseBrace ∷ t.Sign g.Semicolon ∷ []
 arrow_first = refl
 
 -- an arrow whose body is an object: () => { return {}; }
@@ -114,24 +114,24 @@ arrow_called = refl
 
 -- KEYS
 -- a.return(b, c)
-reserved_key : spell inner (Call (Member va (Dot (codes "return"))) (also vb (also vc none))) 1 ≡ a ∷ t.Sign g.Dot ∷ t.Keyword k.Return ∷ t.Sign g.OpenParen ∷ b ∷ t.Sign g.Comma ∷ c ∷ t.Sign g.CloseParen ∷ []
+reserved_key : spell inner (Call (Member tree_a (Dot (codes "return"))) (also tree_b (also tree_c none))) 1 ≡ name_a ∷ t.Sign g.Dot ∷ t.Keyword k.Return ∷ t.Sign g.OpenParen ∷ name_b ∷ t.Sign g.Comma ∷ name_c ∷ t.Sign g.CloseParen ∷ []
 reserved_key = refl
 
 -- a.b and a[b]
-two_keys : spell inner (Member (Member va (Dot (codes "b"))) (Index vb)) 1 ≡ a ∷ t.Sign g.Dot ∷ b ∷ t.Sign g.OpenBracket ∷ b ∷ t.Sign g.CloseBracket ∷ []
+two_keys : spell inner (Member (Member tree_a (Dot (codes "b"))) (Index tree_b)) 1 ≡ name_a ∷ t.Sign g.Dot ∷ name_b ∷ t.Sign g.OpenBracket ∷ name_b ∷ t.Sign g.CloseBracket ∷ []
 two_keys = refl
 
 -- {"a": a, [b]: c}
-properties : spell inner (Object (property (Fixed (codes "a")) va (property (Computed vb) vc no_properties))) 1 ≡ t.Sign g.OpenBrace ∷ t.Text (codes "a") ∷ t.Sign g.Colon ∷ a ∷ t.Sign g.Comma ∷ t.Sign g.OpenBracket ∷ b ∷ t.Sign g.CloseBracket ∷ t.Sign g.Colon ∷ c ∷ t.Sign g.CloseBrace ∷ []
+properties : spell inner (Object (property (Fixed (codes "a")) tree_a (property (Computed tree_b) tree_c no_properties))) 1 ≡ t.Sign g.OpenBrace ∷ t.Text (codes "a") ∷ t.Sign g.Colon ∷ name_a ∷ t.Sign g.Comma ∷ t.Sign g.OpenBracket ∷ name_b ∷ t.Sign g.CloseBracket ∷ t.Sign g.Colon ∷ name_c ∷ t.Sign g.CloseBrace ∷ []
 properties = refl
 
 -- LINES AND DEPTHS
 -- if (a) { b; }
 abbrev branch : Stmts
-branch = next (If va (Block (program vb)) no_stmt) end
+branch = next (If tree_a (Block (program tree_b)) no_stmt) end
 
 -- a line ends behind the brace and the semicolon
-lines : laid (spell_program branch) ≡ keyword k.If false ∷ sign g.OpenParen false ∷ lexeme a false ∷ sign g.CloseParen false ∷ sign g.OpenBrace false ∷ lexeme b true ∷ sign g.Semicolon false ∷ sign g.CloseBrace true ∷ []
+lines : laid (spell_program branch) ≡ keyword k.If false ∷ sign g.OpenParen false ∷ lexeme name_a false ∷ sign g.CloseParen false ∷ sign g.OpenBrace false ∷ lexeme name_b true ∷ sign g.Semicolon false ∷ sign g.CloseBrace true ∷ []
 lines = refl
 
 -- the if, the block, the statement in it and its expression
@@ -139,9 +139,9 @@ levels : depth_program branch ≡ 4
 levels = refl
 
 -- a * (b + c); is a statement, a product, parentheses, a sum and a name
-parentheses_count : depth_program (program (times va (plus vb vc))) ≡ 5
+parentheses_count : depth_program (program (times tree_a (plus tree_b tree_c))) ≡ 5
 parentheses_count = refl
 
 -- and a * b * c; a statement, two products and a name
-products : depth_program (program (times (times va vb) vc)) ≡ 4
+products : depth_program (program (times (times tree_a tree_b) tree_c)) ≡ 4
 products = refl
