@@ -1,2 +1,6 @@
 pub mod Characters
 pub mod Lexical
+pub mod Lexeme
+pub mod Pieces
+pub mod Places
+pub mod Counting

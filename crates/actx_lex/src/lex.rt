@@ -1,0 +1,181 @@
+//! From a text to its tokens (ECMA-262, 12), each the longest that begins at its place.
+
+ghost use Rattle.std.specs.Prelude.{◌≡◌, ◌<◌, ◌≤◌, ◌^◌, ◌↔◌, ℕ, List, length, All, Bool, true, false, IfOk, IfErr, IsErrOf, ◌≢◌};
+ghost use Rattle.actx_ast.specs.Words.{HasForm};
+ghost use Rattle.actx_lex.specs.declared.token.Side.TheVariants.{Source as source};
+ghost use Rattle.actx_lex.specs.declared.token.Token.{Token};
+ghost use Rattle.actx_lex.specs.declared.lex.LexFault.TheVariants.{NoMemory as no_memory};
+ghost use Rattle.actx_lex.specs.Lexical as spec;
+ghost use Rattle.actx_lex.specs.Lexeme as lexeme;
+
+use super::characters::{has_line_end, is_digit, is_name_start, size_of};
+use super::comments::gap_len;
+use super::lexeme::Lexeme;
+use super::names::first_word;
+use super::numbers::{begins_number, first_number};
+use super::signs::first_sign;
+use super::texts::first_text;
+use super::token::{Side, Token, Tokens};
+use actx_data::NoMemory;
+use std::alloc::{AllocError, AllocFailed, Global};
+use thiserror::Error;
+
+/// The greatest length in bytes of a user's text.
+const LONGEST_SOURCE: usize = 1_048_576;
+
+/// Why a text has no tokens, with a byte place.
+#[derive(Clone, Copy, Debug, Drop, PartialEq, Eq, Error)]
+pub enum LexFault {
+    /// The text isn't UTF-8; the place is the length of its longest front that is.
+    #[error("NotUtf8")]
+    NotUtf8(usize),
+    /// After some tokens none stands at the place.
+    #[error("BadToken")]
+    BadToken(usize),
+    /// A user's text is longer than 1,048,576 bytes.
+    #[error("TooLong")]
+    TooLong,
+    /// After some tokens none stands at the place, where a number begins.
+    #[error("BadNumber")]
+    BadNumber(usize),
+    /// Memory ran out.
+    #[error("NoMemory")]
+    NoMemory,
+}
+
+impl From<NoMemory> for LexFault {
+    ghost from_gives = { λ _ e. e ≡ no_memory };
+
+    fn from(_refused: NoMemory) -> LexFault {
+        LexFault::NoMemory
+    }
+}
+
+impl From<AllocError> for LexFault {
+    ghost from_gives = { λ _ e. e ≡ no_memory };
+
+    fn from(_refused: AllocError) -> LexFault {
+        LexFault::NoMemory
+    }
+}
+
+impl<T: Drop> From<AllocFailed<T>> for LexFault {
+    ghost from_gives = { λ _ e. e ≡ no_memory };
+
+    fn from(_refused: AllocFailed<T>) -> LexFault {
+        LexFault::NoMemory
+    }
+}
+
+/// The tokens of a text in UTF-8.
+///
+/// # Errors
+///
+/// `TooLong` for a text of a user over 1,048,576 bytes, `NotUtf8` for what isn't UTF-8, `BadToken` and `BadNumber` where
+/// the text can't be cut into tokens, as `a # b` and `01` can't, and `NoMemory` where memory runs out.
+pub fn lex(alloc: Global, text: &[u8], side: Side) -> Result<Tokens, LexFault>
+    ensures found { IfOk result (λ t. spec.Tokens text.now t.list.items × (t.end ≡ length text.now)) }
+    ensures form { IfOk result (λ t. All HasForm (spec.kinds_of t.list.items)) }
+    ensures only { (ts : List Token) → spec.Tokens text.now ts → IfOk result (λ t. t.list.items ≡ ts) }
+    ensures too_long { IsErrOf result LexFault.TooLong ↔ ((side ≡ source) × (1048576 < length text.now)) }
+    ensures not_utf8 { (n : ℕ) → IsErrOf result (LexFault.NotUtf8 n) → spec.NotText text.now n }
+    ensures bad_token { (n : ℕ) → IsErrOf result (LexFault.BadToken n) → spec.Stuck text.now false n }
+    ensures bad_number { (n : ℕ) → IsErrOf result (LexFault.BadNumber n) → spec.Stuck text.now true n }
+{
+    if side == Side::Source && text.len() > LONGEST_SOURCE {
+        return Err(LexFault::TooLong);
+    }
+    let valid = match str::from_utf8(text) {
+        Ok(valid) => valid,
+        Err(fault) => return Err(LexFault::NotUtf8(fault.valid_up_to())),
+    };
+    let chars: Vec<char> = valid.chars().collect(alloc)?;
+    let list = cut(alloc, chars.as_slice())?;
+    Ok(Tokens {
+        list,
+        end: text.len(),
+    })
+}
+
+/// The tokens of some characters.
+fn cut(alloc: Global, chars: &[char]) -> Result<Vec<Token>, LexFault>
+    requires { spec.size chars.now < 2 ^ 64 }
+    ensures found { IfOk result (λ v. lexeme.Cut chars.now v.items) }
+    ensures form { IfOk result (λ v. All HasForm (spec.kinds_of v.items)) }
+    ensures fault { IfErr result (lexeme.CutFault chars.now) }
+{
+    let mut list = Vec::new(alloc);
+    let mut rest = chars;
+    let mut at = 0;
+    let mut line_before = false;
+    let mut first = true;
+    while !rest.is_empty() {
+        let gap = gap_len(rest);
+        if gap > 0 {
+            at += size_of(&rest[..gap]);
+            line_before = line_before || has_line_end(&rest[..gap]);
+            rest = &rest[gap..];
+        } else {
+            let lexeme = first_lexeme(alloc, rest, line_before || first, at)?;
+            let len = lexeme.len;
+            let kind = lexeme.kind;
+            list.push(Token {
+                kind,
+                at,
+                line_before,
+            })?;
+            at += size_of(&rest[..len]);
+            rest = &rest[len..];
+            line_before = false;
+            first = false;
+        }
+    }
+    Ok(list)
+}
+
+/// The token that a text begins with, which stands at a byte place; `fresh` says that only white space and comments stand
+/// before it on its line.
+fn first_lexeme(alloc: Global, text: &[char], fresh: bool, at: usize) -> Result<Lexeme, LexFault>
+    requires some { 0 < length text.now }
+    ensures found { IfOk result (λ l. lexeme.Begins fresh text.now l.kind l.len) }
+    ensures form { IfOk result (λ l. HasForm l.kind) }
+    ensures fault { IfErr result (lexeme.NoTokenAt fresh text.now at) }
+{
+    let first = text[0];
+    let lexeme = if is_name_start(first) {
+        Some(first_word(alloc, text)?)
+    } else if is_digit(first) {
+        first_number(text)
+    } else if first == '"' || first == '\'' {
+        first_text(alloc, text)?
+    } else {
+        first_sign(text, fresh)
+    };
+    lexeme.ok_or(fault_at(text, at))
+}
+
+/// The fault of a text that begins with no token.
+fn fault_at(text: &[char], at: usize) -> LexFault
+    ensures { result ≡ lexeme.fault_at text.now at }
+{
+    if begins_number(text) {
+        LexFault::BadNumber(at)
+    } else {
+        LexFault::BadToken(at)
+    }
+}
+
+/// A text has one list of tokens at most.
+pub fn one_cut()
+    ensures { spec.OneCut }
+{
+}
+
+/// No text that has tokens is stuck, so that a fault comes exactly where it must.
+pub fn not_stuck()
+    ensures { spec.NotStuck }
+{
+}
+
+#[cfg(test)]
+mod tests;
