@@ -41,7 +41,6 @@ fn line_len(text: &[char]) -> usize
 
 /// How long a block comment is that goes on with these characters, or 0 where it has no end.
 fn block_len(text: &[char]) -> usize
-    requires { length text.now + 4 < 2 ^ 64 }
     ensures { FirstEnd text.now result }
 {
     for (i, c) in text.iter().enumerate() {

@@ -1,6 +1,6 @@
 //! What stands for one character in a text in quotes (ECMA-262, 12.9.4): a character, as `a`, or an escape, as `\u{61}`.
 
-ghost use Rattle.std.specs.Prelude.{◌≡◌, ◌<◌, ◌≤◌, ◌+◌, ◌^◌, IsTrue, length};
+ghost use Rattle.std.specs.Prelude.{◌≡◌, ◌<◌, ◌≤◌, IsTrue, length};
 ghost use Rattle.std.specs.List.{prefix_len};
 ghost use Rattle.actx_lex.specs.Characters as spec;
 ghost use Rattle.actx_lex.specs.Pieces as pieces;
@@ -99,7 +99,6 @@ fn fixed(rest: &[char], digits: usize) -> Option<Piece>
 
 /// `\u{H..}`, behind the brace.
 fn braced(rest: &[char]) -> Option<Piece>
-    requires { length rest.now + 4 < 2 ^ 64 }
     ensures { result ≡ pieces.braced rest.now }
 {
     let digits = hex_len(rest);

@@ -1,0 +1,21 @@
+-- The code point that hexadecimal digits write.
+use Rattle.std.proofs.Common.{◌≡◌, inl, inr, ℕ, ◌+◌, ◌*◌, ◌<◌, ◌≤◌, true, false, ◌&&◌, List, [], ◌∷◌, ◌++◌, Some, None, length, get_or, take, drop, refl, sym, ◌∙◌, ap, IsTrue, leb, arith}
+use Rattle.std.specs.List.{list_all}
+use Rattle.std.proofs.lemmas.Bool.{cond-true, cond-false, lt-leb, le-leb, and_left, and_right, and_from}
+use Rattle.std.proofs.lemmas.List.{at_drop_more}
+use Rattle.actx_lex.specs.Characters.{is_hex, hex_on, hex_value}
+use Rattle.actx_lex.specs.Pieces.{hex_number}
+
+-- more digits make no smaller number
+pub hex_grows : (n : ℕ) (w : List ℕ) → n ≤ hex_on n w
+hex_grows n [] = omega arith
+hex_grows n (c ∷ w) = let more = hex_grows (n * 16 + hex_value c) w in omega arith
+
+pub no_hex : (w : List ℕ) → list_all is_hex w ≡ false → None ≡ hex_number w
+no_hex w e = sym (cond-false (list_all is_hex w && leb (hex_on 0 w) 1114111) (Some (hex_on 0 w)) None (and_left _ _ e))
+
+pub too_great : (w : List ℕ) → 1114111 < hex_on 0 w → None ≡ hex_number w
+too_great w e = sym (cond-false (list_all is_hex w && leb (hex_on 0 w) 1114111) (Some (hex_on 0 w)) None (and_right _ _ (lt-leb (hex_on 0 w) 1114111 e)))
+
+pub hex_found : (w : List ℕ) → list_all is_hex w ≡ true → hex_on 0 w ≤ 1114111 → hex_number w ≡ Some (hex_on 0 w)
+hex_found w e h = cond-true (list_all is_hex w && leb (hex_on 0 w) 1114111) (Some (hex_on 0 w)) None (and_from _ _ e (le-leb (hex_on 0 w) 1114111 h))
