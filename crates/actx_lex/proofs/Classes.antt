@@ -1,7 +1,7 @@
 -- What a token's first character may be.
 use Rattle.std.proofs.Common.{◌≡◌, ◌≢◌, ◌⊎◌, inl, inr, ℕ, ◌<◌, ◌≤◌, Bool, true, false, cond, ◌||◌, refl, sym, ◌∙◌, ap, subst, arith, IsTrue, eqb, ltb}
-use Rattle.std.specs.Char.{is_ascii_alphabetic}
-use Rattle.std.proofs.lemmas.Bool.{cases_lt, cases_Bool, cond-true, cond-false, or_right, or_from, or_parts, or_cases, ne_eqb, both_ways, lt-ltb, le-ltb, eqb-true}
+use Rattle.std.specs.Char.{is_ascii_alphabetic, is_ascii_alphanumeric}
+use Rattle.std.proofs.lemmas.Bool.{cases_lt, cases_Bool, cond-true, cond-false, or_left, or_right, or_from, or_parts, or_cases, ne_eqb, both_ways, lt-ltb, le-ltb, eqb-true}
 use Rattle.unicode_ident.specs.Ident.{is_xid_start, is_xid_continue}
 use Rattle.unicode_ident.proofs.Computing.{unicode_ident}
 use Rattle.unicode_ident.proofs.IdentLemmas.{is_xid_start-ascii, is_xid_continue-ascii, is_xid_start-is_xid_continue}
@@ -35,6 +35,12 @@ class_of c = cond (is_digit c) digit (cond (is_quote c) quote (cond (is_blank c)
 pub start_letter : (c : ℕ) → c < 128 → is_name_start c ≡ is_letter c
 start_letter c h = ap (λ b. (eqb c 36 || eqb c 95) || b) (is_xid_start-ascii c h)
 
+pub letter_start : (c : ℕ) → IsTrue (is_letter c) → IsTrue (is_name_start c)
+letter_start c h = start_letter c (below c h) ∙ h
+  where
+    below : (c : ℕ) → IsTrue (is_letter c) → c < 128
+    below c h = grind arith
+
 low_line : IsTrue (is_name_part 95)
 unfolding unicode_ident
 low_line = refl
@@ -48,6 +54,14 @@ start_part c h =
         ]
       | inr x ↦ or_right (eqb c 36) (is_xid_continue c) (is_xid_start-is_xid_continue c x)
     ]
+
+pub digit_part : (c : ℕ) → IsTrue (is_digit c) → IsTrue (is_name_part c)
+digit_part c h = or_right (eqb c 36) (is_xid_continue c) (is_xid_continue-ascii c (below c h) ∙ or_left (is_ascii_alphanumeric c) (eqb c 95) (numeric c h))
+  where
+    below : (c : ℕ) → IsTrue (is_digit c) → c < 128
+    below c h = grind arith
+    numeric : (c : ℕ) → IsTrue (is_digit c) → is_ascii_alphanumeric c ≡ true
+    numeric c h = grind arith
 
 letter_digit : (c : ℕ) → IsTrue (is_letter c) → is_digit c ≡ false
 letter_digit c h = grind arith

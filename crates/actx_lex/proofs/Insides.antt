@@ -119,7 +119,7 @@ no_feed x h (braced_hex hs i l j) e = omega arith
 no_feed x h (line_end i j) e = omega arith
 no_feed x h (crlf j) e = omega arith
 
-small_units : (c : ℕ) → c < 65536 → units_of c ≡ c ∷ []
+pub small_units : (c : ℕ) → c < 65536 → units_of c ≡ c ∷ []
 small_units c h = cond-true (ltb c 65536) (c ∷ []) _ (lt-ltb c 65536 h)
 
 none_true : (b : Bool) → cond b false true ≡ true → b ≡ false

@@ -6,3 +6,12 @@ pub mod ReservedWords
 pub mod SignTexts
 pub mod Insides
 pub mod Tokens
+pub mod Quotes
+pub mod Beginnings
+pub mod Runs
+pub mod NameRuns
+pub mod NumberRuns
+pub mod SignsFound
+pub mod SignsLongest
+pub mod NoSigns
+pub mod Commentary
