@@ -15,3 +15,4 @@ pub mod SignsFound
 pub mod SignsLongest
 pub mod NoSigns
 pub mod Commentary
+pub mod OneCut

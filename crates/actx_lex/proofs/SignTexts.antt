@@ -1,5 +1,5 @@
 -- Signs by their texts.
-use Rattle.std.proofs.Common.{◌≡◌, ℕ, ◌<◌, ◌≤◌, ◌-◌, true, false, cond, List, [], ◌∷◌, ◌++◌, Option, Some, None, length, get_or, refl, sym, ◌∙◌, ap, bytes_eq, lit<, lit≤}
+use Rattle.std.proofs.Common.{◌≡◌, ℕ, ◌<◌, ◌≤◌, ◌-◌, true, false, cond, List, [], ◌∷◌, ◌++◌, Option, Some, None, length, get_or, refl, sym, ◌∙◌, ap, bytes_eq, eqb, lit<, lit≤}
 use Rattle.actx_ast.specs.declared.token.Keyword.{Keyword}
 use Rattle.actx_ast.specs.declared.token.Keyword.TheVariants as k
 use Rattle.actx_ast.specs.declared.token.Sign.{Sign}
@@ -215,3 +215,37 @@ found_sign s.Coalesce = refl
 
 pub one_sign : (q r : Sign) → sign_text q ≡ sign_text r → q ≡ r
 one_sign q r e = let f : Some q ≡ Some r = sym (found_sign q) ∙ ap (find_sign all_signs) e ∙ found_sign r in cc
+
+-- no sign begins as a comment does
+pub no_slash : (s : Sign) → eqb (get_or (sign_text s) 0 0) 47 ≡ false
+no_slash s.OpenBrace = refl
+no_slash s.CloseBrace = refl
+no_slash s.OpenParen = refl
+no_slash s.CloseParen = refl
+no_slash s.OpenBracket = refl
+no_slash s.CloseBracket = refl
+no_slash s.Dot = refl
+no_slash s.Comma = refl
+no_slash s.Semicolon = refl
+no_slash s.Colon = refl
+no_slash s.Question = refl
+no_slash s.Arrow = refl
+no_slash s.Assign = refl
+no_slash s.AddAssign = refl
+no_slash s.SubAssign = refl
+no_slash s.MulAssign = refl
+no_slash s.Increment = refl
+no_slash s.Decrement = refl
+no_slash s.Plus = refl
+no_slash s.Minus = refl
+no_slash s.Star = refl
+no_slash s.Not = refl
+no_slash s.Less = refl
+no_slash s.LessSame = refl
+no_slash s.More = refl
+no_slash s.MoreSame = refl
+no_slash s.Same = refl
+no_slash s.NotSame = refl
+no_slash s.And = refl
+no_slash s.Or = refl
+no_slash s.Coalesce = refl

@@ -1,6 +1,6 @@
 //! Classes of characters (ECMA-262, 12), and the characters of a text by their index.
 
-ghost use Rattle.std.specs.Prelude.{◌≡◌, ◌<◌, ◌^◌, slice_index};
+ghost use Rattle.std.specs.Prelude.{◌≡◌, ◌<◌, ◌^◌, ◌||◌, slice_index};
 ghost use Rattle.actx_ast.specs.Words as words;
 ghost use Rattle.actx_lex.specs.Characters as spec;
 ghost use Rattle.actx_lex.specs.Lexical.{size, has_line_end};
@@ -17,6 +17,13 @@ pub fn is_space(c: char) -> bool
     ensures { result ≡ spec.is_space c }
 {
     c == '\t' || c == '\u{b}' || c == '\u{c}' || c == ' ' || c == '\u{a0}' || c == '\u{feff}'
+}
+
+/// White space and line ends.
+pub fn is_blank(c: char) -> bool
+    ensures { result ≡ (spec.is_space c || spec.is_line_end c) }
+{
+    is_space(c) || is_line_end(c)
 }
 
 /// The digits of decimal numbers.

@@ -4,7 +4,7 @@ ghost use Rattle.std.specs.Prelude.{◌≡◌, ◌≤◌, ◌<◌, length};
 ghost use Rattle.std.specs.List.{prefix_len};
 ghost use Rattle.actx_lex.specs.Lexeme.{IsGap, NoGap, is_inside_line, FirstEnd};
 
-use super::characters::{char_at, is_line_end, is_space};
+use super::characters::{char_at, is_blank, is_line_end};
 
 /// How many characters the white space, line end or comment takes that a text begins with; 0 where none stands there, as
 /// where a block comment has no end.
@@ -13,16 +13,16 @@ pub fn gap_len(text: &[char]) -> usize
     ensures found { 0 < result → IsGap text.now result }
     ensures none { result ≡ 0 → NoGap text.now }
 {
-    if is_space(text[0]) || is_line_end(text[0]) {
-        return 1;
-    }
-    if text[0] != '/' {
-        return 0;
-    }
-    match char_at(text, 1) {
-        '/' => line_len(&text[2..]) + 2,
-        '*' => block_len(&text[2..]),
-        _ => 0,
+    let first = char_at(text, 0);
+    let second = char_at(text, 1);
+    if is_blank(first) {
+        1
+    } else if first == '/' && second == '/' {
+        line_len(&text[2..]) + 2
+    } else if first == '/' && second == '*' {
+        block_len(&text[2..])
+    } else {
+        0
     }
 }
 
