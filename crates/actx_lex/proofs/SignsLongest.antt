@@ -1,6 +1,6 @@
 -- The sign that the code finds is the longest punctuator there.
-use Rattle.std.proofs.Common.{◌≡◌, ◌≢◌, inl, inr, ℕ, ◌<◌, ◌≤◌, Bool, true, false, not, IsTrue, List, [], ◌∷◌, ◌++◌, Option, Some, None, length, get_or, take, drop, refl, sym, ◌∙◌, ap, subst, arith, Contains, eqb, lit≤, codes}
-use Rattle.std.proofs.lemmas.Bool.{cond_both, both_ways}
+use Rattle.std.proofs.Common.{◌≡◌, ◌≢◌, inl, inr, ℕ, ◌<◌, ◌≤◌, Bool, true, false, not, ◌&&◌, IsTrue, List, [], ◌∷◌, ◌++◌, Option, Some, None, length, get_or, take, drop, refl, sym, ◌∙◌, ap, subst, arith, Contains, eqb, lit≤, codes}
+use Rattle.std.proofs.lemmas.Bool.{cond_both, both_ways, not-true, false≢true}
 use Rattle.std.proofs.lemmas.List.{take-append-drop, append_assoc, length-append}
 use Rattle.std.proofs.lemmas.List.Elements.{All-from_recursion, All-contains}
 use Rattle.actx_ast.specs.declared.token.Sign.{Sign}
@@ -10,7 +10,7 @@ use Rattle.actx_ast.specs.declared.token.TokenKind.TheVariants as t
 use Rattle.actx_ast.specs.Words.{sign_text}
 use Rattle.actx_lex.specs.Characters.{is_digit, begins_digit}
 use Rattle.actx_lex.specs.Lexical.{refused_signs, IsToken, sign_token, IsLexeme, IsLongest, MayFollow, begins_more}
-use Rattle.actx_lex.specs.Lexeme.{Begins, longest_sign}
+use Rattle.actx_lex.specs.Lexeme.{Begins, longest_sign, may_follow}
 use Rattle.actx_lex.proofs.Classes.{mark, class_of}
 use Rattle.actx_lex.proofs.Tokens.{token_class, reading, mark_reading}
 use Rattle.actx_lex.proofs.Beginnings.{Starts, starts, starts_once}
@@ -88,40 +88,6 @@ sign_longest s rest e x y cut some lexeme =
     let fits : Fits (Some s) (length (sign_text s ++ x)) = subst (λ o. Fits o (length (sign_text s ++ x))) (ap sign_of (sym whole) ∙ e) (lexeme_fits (sign_text s ++ x) y lexeme first) in
     omega (arith, fits, length-append (sign_text s) x, some_more x some)
 
--- a dot before a digit, and `-->` where only white space and comments stand before it, are no tokens
-sign_may_follow : (fresh : Bool) (r : Sign) (rest : List ℕ) → (r ≡ s.Dot → begins_digit rest ≡ false) → (r ≡ s.Decrement → IsTrue fresh → begins_more rest ≡ false) → MayFollow fresh (t.Sign r) rest
-sign_may_follow fresh s.OpenBrace rest d m = tt
-sign_may_follow fresh s.CloseBrace rest d m = tt
-sign_may_follow fresh s.OpenParen rest d m = tt
-sign_may_follow fresh s.CloseParen rest d m = tt
-sign_may_follow fresh s.OpenBracket rest d m = tt
-sign_may_follow fresh s.CloseBracket rest d m = tt
-sign_may_follow fresh s.Dot rest d m = d refl
-sign_may_follow fresh s.Comma rest d m = tt
-sign_may_follow fresh s.Semicolon rest d m = tt
-sign_may_follow fresh s.Colon rest d m = tt
-sign_may_follow fresh s.Question rest d m = tt
-sign_may_follow fresh s.Arrow rest d m = tt
-sign_may_follow fresh s.Assign rest d m = tt
-sign_may_follow fresh s.AddAssign rest d m = tt
-sign_may_follow fresh s.SubAssign rest d m = tt
-sign_may_follow fresh s.MulAssign rest d m = tt
-sign_may_follow fresh s.Increment rest d m = tt
-sign_may_follow fresh s.Decrement rest d m = m refl
-sign_may_follow fresh s.Plus rest d m = tt
-sign_may_follow fresh s.Minus rest d m = tt
-sign_may_follow fresh s.Star rest d m = tt
-sign_may_follow fresh s.Not rest d m = tt
-sign_may_follow fresh s.Less rest d m = tt
-sign_may_follow fresh s.LessSame rest d m = tt
-sign_may_follow fresh s.More rest d m = tt
-sign_may_follow fresh s.MoreSame rest d m = tt
-sign_may_follow fresh s.Same rest d m = tt
-sign_may_follow fresh s.NotSame rest d m = tt
-sign_may_follow fresh s.And rest d m = tt
-sign_may_follow fresh s.Or rest d m = tt
-sign_may_follow fresh s.Coalesce rest d m = tt
-
 pub next_digit : (text : List ℕ) → begins_digit (drop 1 text) ≡ is_digit (get_or text 1 0)
 next_digit [] = refl
 next_digit (a ∷ []) = refl
@@ -132,6 +98,78 @@ next_more [] = refl
 next_more (a ∷ []) = refl
 next_more (a ∷ b ∷ []) = refl
 next_more (a ∷ b ∷ c ∷ text) = refl
+
+fresh_apart : (fresh more : Bool) → IsTrue fresh → not (fresh && more) ≡ true → more ≡ false
+fresh_apart true more h e = not-true more e
+fresh_apart false more h e = absurd (false≢true h)
+
+-- what may follow a sign, by the characters behind its first
+follows_from : (fresh : Bool) (r : Sign) (text : List ℕ) → may_follow fresh r (get_or text 1 0) (get_or text 2 0) ≡ true → MayFollow fresh (t.Sign r) (drop (length (sign_text r)) text)
+follows_from fresh s.OpenBrace text e = tt
+follows_from fresh s.CloseBrace text e = tt
+follows_from fresh s.OpenParen text e = tt
+follows_from fresh s.CloseParen text e = tt
+follows_from fresh s.OpenBracket text e = tt
+follows_from fresh s.CloseBracket text e = tt
+follows_from fresh s.Dot text e = next_digit text ∙ not-true (is_digit (get_or text 1 0)) e
+follows_from fresh s.Comma text e = tt
+follows_from fresh s.Semicolon text e = tt
+follows_from fresh s.Colon text e = tt
+follows_from fresh s.Question text e = tt
+follows_from fresh s.Arrow text e = tt
+follows_from fresh s.Assign text e = tt
+follows_from fresh s.AddAssign text e = tt
+follows_from fresh s.SubAssign text e = tt
+follows_from fresh s.MulAssign text e = tt
+follows_from fresh s.Increment text e = tt
+follows_from fresh s.Decrement text e = λ h. next_more text ∙ fresh_apart fresh (eqb (get_or text 2 0) 62) h e
+follows_from fresh s.Plus text e = tt
+follows_from fresh s.Minus text e = tt
+follows_from fresh s.Star text e = tt
+follows_from fresh s.Not text e = tt
+follows_from fresh s.Less text e = tt
+follows_from fresh s.LessSame text e = tt
+follows_from fresh s.More text e = tt
+follows_from fresh s.MoreSame text e = tt
+follows_from fresh s.Same text e = tt
+follows_from fresh s.NotSame text e = tt
+follows_from fresh s.And text e = tt
+follows_from fresh s.Or text e = tt
+follows_from fresh s.Coalesce text e = tt
+
+follows_to : (fresh : Bool) (r : Sign) (text : List ℕ) → MayFollow fresh (t.Sign r) (drop (length (sign_text r)) text) → may_follow fresh r (get_or text 1 0) (get_or text 2 0) ≡ true
+follows_to fresh s.OpenBrace text f = refl
+follows_to fresh s.CloseBrace text f = refl
+follows_to fresh s.OpenParen text f = refl
+follows_to fresh s.CloseParen text f = refl
+follows_to fresh s.OpenBracket text f = refl
+follows_to fresh s.CloseBracket text f = refl
+follows_to fresh s.Dot text f = ap not (sym (next_digit text) ∙ f)
+follows_to fresh s.Comma text f = refl
+follows_to fresh s.Semicolon text f = refl
+follows_to fresh s.Colon text f = refl
+follows_to fresh s.Question text f = refl
+follows_to fresh s.Arrow text f = refl
+follows_to fresh s.Assign text f = refl
+follows_to fresh s.AddAssign text f = refl
+follows_to fresh s.SubAssign text f = refl
+follows_to fresh s.MulAssign text f = refl
+follows_to fresh s.Increment text f = refl
+follows_to true s.Decrement text f = ap not (sym (next_more text) ∙ f refl)
+follows_to false s.Decrement text f = refl
+follows_to fresh s.Plus text f = refl
+follows_to fresh s.Minus text f = refl
+follows_to fresh s.Star text f = refl
+follows_to fresh s.Not text f = refl
+follows_to fresh s.Less text f = refl
+follows_to fresh s.LessSame text f = refl
+follows_to fresh s.More text f = refl
+follows_to fresh s.MoreSame text f = refl
+follows_to fresh s.Same text f = refl
+follows_to fresh s.NotSame text f = refl
+follows_to fresh s.And text f = refl
+follows_to fresh s.Or text f = refl
+follows_to fresh s.Coalesce text f = refl
 
 pub sign_starts : (text : List ℕ) (s : Sign) → sign_of text ≡ Some s → Starts text (t.Sign s) (length (sign_text s))
 sign_starts text s e =
@@ -144,27 +182,14 @@ sign_starts text s e =
       longest = subst (λ v. IsLongest v (drop n text)) front (sign_longest s (drop n text) (ap sign_of whole ∙ e));
     }
 
-pub sign_begins : (fresh : Bool) (text : List ℕ) (r : Sign) → sign_of text ≡ Some r → (r ≡ s.Dot → is_digit (get_or text 1 0) ≡ false) → (r ≡ s.Decrement → IsTrue fresh → eqb (get_or text 2 0) 62 ≡ false) → Begins fresh text (t.Sign r) (length (sign_text r))
-sign_begins fresh text r e d m =
+pub sign_begins : (fresh : Bool) (text : List ℕ) (r : Sign) → sign_of text ≡ Some r → may_follow fresh r (get_or text 1 0) (get_or text 2 0) ≡ true → Begins fresh text (t.Sign r) (length (sign_text r))
+sign_begins fresh text r e m =
     let b = sign_starts text r e in
-    record {
-      fits = b.fits;
-      token = b.token;
-      longest = b.longest;
-      follows = sign_may_follow fresh r (drop (length (sign_text r)) text)
-      (λ f. ap (λ v. begins_digit (drop (length (sign_text v)) text)) f ∙ next_digit text ∙ d f)
-      (λ f h. ap (λ v. begins_more (drop (length (sign_text v)) text)) f ∙ next_more text ∙ m f h);
-    }
+    record { fits = b.fits; token = b.token; longest = b.longest; follows = follows_from fresh r text m }
 
 -- where the longest sign may not stand, no token begins
-pub dot_refused : (fresh : Bool) (text : List ℕ) (k : TokenKind) (n : ℕ) → sign_of text ≡ Some s.Dot → is_digit (get_or text 1 0) ≡ true → Begins fresh text k n → ⊥
-dot_refused fresh text k n e d b =
-    let o = starts_once text k (t.Sign s.Dot) n 1 (starts b) (sign_starts text s.Dot e) in
-    let f : begins_digit (drop 1 text) ≡ false = subst (λ i. begins_digit (drop i text) ≡ false) o.1 (subst (λ j. MayFollow fresh j (drop n text)) o.0 b.follows) in
-    both_ways (is_digit (get_or text 1 0)) (sym (next_digit text) ∙ f) d
-
-pub decrement_refused : (fresh : Bool) (text : List ℕ) (k : TokenKind) (n : ℕ) → sign_of text ≡ Some s.Decrement → IsTrue fresh → eqb (get_or text 2 0) 62 ≡ true → Begins fresh text k n → ⊥
-decrement_refused fresh text k n e h d b =
-    let o = starts_once text k (t.Sign s.Decrement) n 2 (starts b) (sign_starts text s.Decrement e) in
-    let f : begins_more (drop 2 text) ≡ false = subst (λ i. begins_more (drop i text) ≡ false) o.1 (subst (λ j. MayFollow fresh j (drop n text)) o.0 b.follows h) in
-    both_ways (eqb (get_or text 2 0) 62) (sym (next_more text) ∙ f) d
+pub sign_apart : (fresh : Bool) (text : List ℕ) (r : Sign) (k : TokenKind) (n : ℕ) → sign_of text ≡ Some r → may_follow fresh r (get_or text 1 0) (get_or text 2 0) ≡ false → Begins fresh text k n → ⊥
+sign_apart fresh text r k n e m b =
+    let o = starts_once text k (t.Sign r) n (length (sign_text r)) (starts b) (sign_starts text r e) in
+    both_ways (may_follow fresh r (get_or text 1 0) (get_or text 2 0)) m
+    (follows_to fresh r text (subst (λ i. MayFollow fresh (t.Sign r) (drop i text)) o.1 (subst (λ j. MayFollow fresh j (drop n text)) o.0 b.follows)))

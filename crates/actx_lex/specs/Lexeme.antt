@@ -116,6 +116,12 @@ longest_sign a b c d =
     else (if a == 124 then or_sign b c
     else None)))))))))))))))))))
 
+-- whether a sign may stand before what follows its first character, b and c
+abbrev pub may_follow : Bool → Sign → ℕ → ℕ → Bool
+may_follow fresh s.Dot b c = not (is_digit b)
+may_follow fresh s.Decrement b c = not (fresh && (c == 62))
+may_follow fresh r b c = true
+
 -- NUMBERS
 -- the number that digits write, or None where it is too great
 abbrev pub number_of : List ℕ → Option ℕ

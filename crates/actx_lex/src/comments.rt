@@ -14,16 +14,20 @@ pub fn gap_len(text: &[char]) -> usize
     ensures none { result ≡ 0 → NoGap text.now }
 {
     let first = char_at(text, 0);
-    let second = char_at(text, 1);
     if is_blank(first) {
-        1
-    } else if first == '/' && second == '/' {
-        line_len(&text[2..]) + 2
-    } else if first == '/' && second == '*' {
-        block_len(&text[2..])
-    } else {
-        0
+        return 1;
     }
+    if first != '/' {
+        return 0;
+    }
+    let second = char_at(text, 1);
+    if second == '/' {
+        return line_len(&text[2..]) + 2;
+    }
+    if second == '*' {
+        return block_len(&text[2..]);
+    }
+    0
 }
 
 /// How many characters stand before the first line end.

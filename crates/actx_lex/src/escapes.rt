@@ -1,6 +1,6 @@
 //! What stands for one character in a text in quotes (ECMA-262, 12.9.4): a character, as `a`, or an escape, as `\u{61}`.
 
-ghost use Rattle.std.specs.Prelude.{◌≡◌, ◌<◌, ◌≤◌, IsTrue, length};
+ghost use Rattle.std.specs.Prelude.{◌≡◌, ◌<◌, ◌≤◌, IsTrue, IfSome, length};
 ghost use Rattle.std.specs.List.{prefix_len};
 ghost use Rattle.actx_lex.specs.Characters as spec;
 ghost use Rattle.actx_lex.specs.Pieces as pieces;
@@ -22,7 +22,8 @@ pub struct Piece {
 /// The piece that a text begins with, or `None` where none stands there, as before a line end.
 pub fn first_piece(text: &[char]) -> Option<Piece>
     requires { 0 < length text.now }
-    ensures { result ≡ pieces.piece_of text.now }
+    ensures piece { result ≡ pieces.piece_of text.now }
+    ensures small { IfSome result (λ p. IfSome p.code (λ c. c < 1114112)) }
 {
     let first = text[0];
     if first == '\\' {
@@ -43,7 +44,8 @@ pub fn first_piece(text: &[char]) -> Option<Piece>
 
 /// The escape of a backslash, a character and the rest of a text.
 fn escape(c: char, rest: &[char]) -> Option<Piece>
-    ensures { result ≡ pieces.escape c rest.now }
+    ensures piece { result ≡ pieces.escape c rest.now }
+    ensures small { IfSome result (λ p. IfSome p.code (λ c. c < 1114112)) }
 {
     if c == 'x' {
         fixed(rest, 2)
@@ -69,7 +71,8 @@ fn escape(c: char, rest: &[char]) -> Option<Piece>
 
 /// What a character behind a backslash stands for.
 fn single_escape(c: char) -> u32
-    ensures { result ≡ spec.single_escape c }
+    ensures value { result ≡ spec.single_escape c }
+    ensures small { result < 1114112 }
 {
     match c {
         'b' => 8,
@@ -85,7 +88,8 @@ fn single_escape(c: char) -> u32
 /// `\xHH` and `\uHHHH`, behind the letter.
 fn fixed(rest: &[char], digits: usize) -> Option<Piece>
     requires { digits ≤ 4 }
-    ensures { result ≡ pieces.fixed rest.now digits }
+    ensures piece { result ≡ pieces.fixed rest.now digits }
+    ensures small { IfSome result (λ p. IfSome p.code (λ c. c < 1114112)) }
 {
     if rest.len() < digits {
         return None;
@@ -99,7 +103,8 @@ fn fixed(rest: &[char], digits: usize) -> Option<Piece>
 
 /// `\u{H..}`, behind the brace.
 fn braced(rest: &[char]) -> Option<Piece>
-    ensures { result ≡ pieces.braced rest.now }
+    ensures piece { result ≡ pieces.braced rest.now }
+    ensures small { IfSome result (λ p. IfSome p.code (λ c. c < 1114112)) }
 {
     let digits = hex_len(rest);
     if digits == 0 || char_at(rest, digits) != '}' {
@@ -127,7 +132,8 @@ fn hex_len(text: &[char]) -> usize
 
 /// The code point that hexadecimal digits write, or `None` where another character is among them or it is too great.
 fn hex_number(digits: &[char]) -> Option<u32>
-    ensures { result ≡ pieces.hex_number digits.now }
+    ensures value { result ≡ pieces.hex_number digits.now }
+    ensures small { IfSome result (λ v. v < 1114112) }
 {
     let mut value = 0;
     for digit in digits {

@@ -7,7 +7,7 @@ ghost use Rattle.actx_lex.specs.Characters as spec;
 ghost use Rattle.actx_lex.specs.Lexical as lexical;
 ghost use Rattle.actx_lex.specs.Lexeme.{Begins, NoToken, number_of};
 
-use super::characters::{is_digit, is_name_part};
+use super::characters::{char_at, is_digit, is_name_part};
 use super::lexeme::Lexeme;
 use actx_ast::token::TokenKind;
 
@@ -22,7 +22,7 @@ pub fn first_number(text: &[char]) -> Option<Lexeme>
     ensures refused { IfNone result ((fresh : Bool) → NoToken fresh text.now) }
 {
     let len = digits_len(text);
-    if text[0] == '0' && len > 1 {
+    if char_at(text, 0) == '0' && len > 1 {
         return None;
     }
     if !begins_free(&text[len..]) {

@@ -23,16 +23,25 @@ pub fn first_sign(text: &[char], fresh: bool) -> Option<Lexeme>
     let next = char_at(text, 1);
     let third = char_at(text, 2);
     let sign = longest_sign(char_at(text, 0), next, third, char_at(text, 3))?;
-    if sign == Sign::Dot && is_digit(next) {
-        return None;
-    }
-    if sign == Sign::Decrement && fresh && third == '>' {
+    if !may_follow(sign, next, third, fresh) {
         return None;
     }
     Some(Lexeme {
         kind: TokenKind::Sign(sign),
         len: sign_text(sign).len(),
     })
+}
+
+/// Whether a sign may stand before what follows its first character: a dot before a digit begins a number, and `-->` is a
+/// comment of Annex B where only white space and comments stand before it on its line.
+fn may_follow(sign: Sign, next: char, third: char, fresh: bool) -> bool
+    ensures { result ≡ lexeme.may_follow fresh sign next third }
+{
+    match sign {
+        Sign::Dot => !is_digit(next),
+        Sign::Decrement => !(fresh && third == '>'),
+        _ => true,
+    }
 }
 
 /// The sign that begins with these characters, where 0 stands past the end of the text; `None` where no punctuator begins

@@ -5,8 +5,8 @@ use Rattle.actx_lex.specs.Characters.{is_hex, hex_on, hex_value}
 use Rattle.actx_lex.proofs.Hexadecimals.{hex_grows, no_hex, too_great, hex_found}
 use Rattle.actx_lex.proofs.escapes.hex_number.Goals as goal
 
-pub returns-then-not-is_hex : goal.returns-then-not-is_hex
-returns-then-not-is_hex c =
+pub returns-then-not-is_hex-clause-value : goal.returns-then-not-is_hex-clause-value
+returns-then-not-is_hex-clause-value c =
     let ds = c.args.digits.now in
     let i = c.loop-digit.digit-index in
     let same = get_or_read ds i c.digit-item.result c.loop-digit-test.true c.digit-item.is 0 in
@@ -14,8 +14,8 @@ returns-then-not-is_hex c =
     let none : is_hex (get_or ds i 0) ≡ false = ap is_hex (sym same) ∙ sym c.is_hex.ensures ∙ c.if-not-is_hex.true in
     no_hex ds (sym c.loop-digit.invariant.all ∙ more ∙ ap (λ b. b && list_all is_hex (drop (i + 1) ds)) none)
 
-pub returns-then-value-gt-GREATEST_CODE : goal.returns-then-value-gt-GREATEST_CODE
-returns-then-value-gt-GREATEST_CODE c =
+pub returns-then-value-gt-GREATEST_CODE-clause-value : goal.returns-then-value-gt-GREATEST_CODE-clause-value
+returns-then-value-gt-GREATEST_CODE-clause-value c =
     let ds = c.args.digits.now in
     let i = c.loop-digit.digit-index in
     let same = ap hex_value (get_or_read ds i c.digit-item.result c.loop-digit-test.true c.digit-item.is 0) in
@@ -38,8 +38,8 @@ loop-digit-preserved c =
       small = c.if-value-gt-GREATEST_CODE.false;
     }
 
-pub returns : goal.returns
-returns c =
+pub returns-clause-value : goal.returns-clause-value
+returns-clause-value c =
     let ds = c.args.digits.now in
     let i = c.loop-digit.digit-index in
     let all : true ≡ list_all is_hex ds = sym (at_drop_all (list_all is_hex) ds i c.loop-digit-test.false) ∙ c.loop-digit.invariant.all in

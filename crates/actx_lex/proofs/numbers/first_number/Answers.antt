@@ -15,7 +15,7 @@ use Rattle.actx_lex.proofs.numbers.first_number.Goals as goal
 pub returns-then-len-gt1-clause-refused : goal.returns-then-len-gt1-clause-refused
 returns-then-len-gt1-clause-refused c = λ fresh k n b.
     let r = number_run fresh c.args.text.now k n c.requires b in
-    let one : n ≤ 1 = r.zero c.if-text-eq48.true in
+    let one : n ≤ 1 = r.zero (sym c.char_at.ensures ∙ c.if-char_at-eq48.true) in
     let e = c.digits_len-len.ensures.run in
     let f = r.run in
     omega arith
@@ -46,5 +46,5 @@ returns-clause-found c = λ fresh.
     let n = c.digits_len-len.result in
     let found = number_found (take n text) c.in_ok-value.value (sym c.number_of.ensures ∙ c.in_ok-value.was) in
     let e = rest_is text n n refl in
-    let zero : get_or text 0 0 ≡ 48 → n ≤ 1 = λ z. elim c.else-text-eq48.either [ inl h ↦ h.1 | inr h ↦ absurd (h z) ] in
+    let zero : get_or text 0 0 ≡ 48 → n ≤ 1 = λ z. elim c.else-char_at-eq48.either [ inl h ↦ h.1 | inr h ↦ absurd (h (c.char_at.ensures ∙ z)) ] in
     subst (λ v. Begins fresh text (t.Number v) n) (sym found.0) (number_begins fresh text n c.requires c.digits_len-len.ensures.run c.digits_len-len.ensures.within zero (sym e ∙ sym c.begins_free.ensures ∙ c.if-not-begins_free.false) found.1)
