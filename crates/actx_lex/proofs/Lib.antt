@@ -16,3 +16,4 @@ pub mod SignsLongest
 pub mod NoSigns
 pub mod Commentary
 pub mod OneCut
+pub mod QuotedTexts

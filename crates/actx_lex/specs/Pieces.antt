@@ -1,8 +1,8 @@
 -- What stands for one character between quotes (ECMA-262, 12.9.4), by the characters that a text begins with.
-use Rattle.std.specs.Prelude.{◌≡◌, ℕ, ◌+◌, Bool, ◌==◌, ◌&&◌, ◌||◌, not, nat_le, nat_lt, List, [], ◌∷◌, ◌++◌, length, take, drop, slice_index, Option, Some, None, if◌then◌else◌}
+use Rattle.std.specs.Prelude.{ℕ, ◌+◌, Bool, ◌==◌, ◌&&◌, ◌||◌, not, nat_le, nat_lt, List, [], length, take, drop, slice_index, Option, Some, None, if◌then◌else◌}
 use Rattle.std.specs.List.{prefix_len, list_all}
 use Rattle.actx_lex.specs.declared.escapes.Piece.{Piece}
-use Rattle.actx_lex.specs.Characters.{is_line_end, is_digit, is_hex, hex_on, units_of, single_escape, Inside}
+use Rattle.actx_lex.specs.Characters.{is_line_end, is_digit, is_hex, hex_on, units_of, single_escape}
 
 -- the code point that hexadecimal digits write, or None where another character is among them or it is too great
 abbrev pub hex_number : List ℕ → Option ℕ
@@ -45,15 +45,11 @@ piece_of text =
     else (if (slice_index text 0 == 10) || (slice_index text 0 == 13) then None
     else piece 1 (Some (slice_index text 0)))
 
+-- the same, where a text begins with no quote
+abbrev pub next_piece : ℕ → List ℕ → Option Piece
+next_piece quote text = if (length text == 0) || (slice_index text 0 == quote) then None else piece_of text
+
 -- the units of a code point, or none
 abbrev pub units_in : Option ℕ → List ℕ
 units_in None = []
 units_in (Some c) = units_of c
-
--- the first n characters are a text in quotes that stands for these units
-pub record IsQuoted (text : List ℕ) (units : List ℕ) (n : ℕ) : Type 0 where
-  pub inner : List ℕ
-  pub rest : List ℕ
-  pub is : text ≡ slice_index text 0 ∷ (inner ++ slice_index text 0 ∷ rest)
-  pub inside : Inside (slice_index text 0) inner units
-  pub long : n ≡ length inner + 2

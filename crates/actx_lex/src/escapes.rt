@@ -19,8 +19,19 @@ pub struct Piece {
     pub code: Option<u32>,
 }
 
+/// The piece that a text begins with, or `None` where none stands there, or the quote does.
+pub fn next_piece(text: &[char], quote: char) -> Option<Piece>
+    ensures piece { result ≡ pieces.next_piece quote text.now }
+    ensures small { IfSome result (λ p. IfSome p.code (λ c. c < 1114112)) }
+{
+    if text.is_empty() || char_at(text, 0) == quote {
+        return None;
+    }
+    first_piece(text)
+}
+
 /// The piece that a text begins with, or `None` where none stands there, as before a line end.
-pub fn first_piece(text: &[char]) -> Option<Piece>
+fn first_piece(text: &[char]) -> Option<Piece>
     requires { 0 < length text.now }
     ensures piece { result ≡ pieces.piece_of text.now }
     ensures small { IfSome result (λ p. IfSome p.code (λ c. c < 1114112)) }

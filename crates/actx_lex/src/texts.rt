@@ -6,7 +6,8 @@ ghost use Rattle.actx_lex.specs.Lexical as spec;
 ghost use Rattle.actx_lex.specs.Lexeme.{Begins, NoToken};
 ghost use Rattle.actx_lex.specs.Pieces.{units_in};
 
-use super::escapes::first_piece;
+use super::characters::char_at;
+use super::escapes::next_piece;
 use super::lexeme::Lexeme;
 use actx_ast::token::TokenKind;
 use actx_data::{NoMemory, Units};
@@ -19,17 +20,15 @@ pub fn first_text(alloc: Global, text: &[char]) -> Result<Option<Lexeme>, NoMemo
     ensures form { IfOk result (λ r. IfSome r (λ l. HasForm l.kind)) }
     ensures refused { IfOk result (λ r. IfNone r ((fresh : Bool) → NoToken fresh text.now)) }
 {
-    let quote = text[0];
-    let mut rest = &text[1..];
+    let quote = char_at(text, 0);
+    let (_, mut rest) = text.split_at(1);
     let mut units = Vec::new(alloc);
-    while !rest.is_empty() && rest[0] != quote {
-        let Some(piece) = first_piece(rest) else {
-            return Ok(None);
-        };
+    while let Some(piece) = next_piece(rest, quote) {
         push_units(&mut units, piece.code)?;
-        rest = &rest[piece.len..];
+        let (_, left) = rest.split_at(piece.len);
+        rest = left;
     }
-    if rest.is_empty() {
+    if char_at(rest, 0) != quote {
         return Ok(None);
     }
     let units = Units::from_vec(units);

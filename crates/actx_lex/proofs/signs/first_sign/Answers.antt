@@ -1,4 +1,4 @@
-use Rattle.std.proofs.Common.{◌≡◌, ◌≢◌, ℕ, inl, inr, not, true, false, ◌||◌, length, eqb, Option, Some, None, refl, sym, ◌∙◌, ap, subst}
+use Rattle.std.proofs.Common.{◌≡◌, ◌≢◌, ℕ, inl, inr, not, true, false, ◌||◌, length, get_or, eqb, Option, Some, None, refl, sym, ◌∙◌, ap, subst}
 use Rattle.std.proofs.lemmas.Bool.{not-true, not-false, or_from, ne_eqb}
 use Rattle.actx_ast.specs.declared.token.Sign.{Sign}
 use Rattle.actx_ast.specs.declared.token.TokenKind.TheVariants as t
@@ -25,7 +25,7 @@ returns-then-not-may_follow-clause-refused c = λ k n b.
     let r = c.in_ok-sign.sign in
     sign_apart c.args.fresh c.args.text.now r k n
     (at_chars _ _ _ _ _ _ _ _ c.longest_sign.result (Some r) c.char_at.ensures c.char_at-next.ensures c.char_at-third.ensures c.char_at-2.ensures c.longest_sign.ensures c.in_ok-sign.was)
-    (ap (λ x. may_follow c.args.fresh r x _) (sym c.char_at-next.ensures) ∙ ap (may_follow c.args.fresh r c.char_at-next.result) (sym c.char_at-third.ensures) ∙ sym c.may_follow.ensures ∙ c.if-not-may_follow.true) b
+    (ap (λ x. may_follow c.args.fresh r x (get_or c.args.text.now 2 0)) (sym c.char_at-next.ensures) ∙ ap (may_follow c.args.fresh r c.char_at-next.result) (sym c.char_at-third.ensures) ∙ sym c.may_follow.ensures ∙ c.if-not-may_follow.true) b
 
 pub returns-clause-found : goal.returns-clause-found
 returns-clause-found c =
@@ -33,4 +33,4 @@ returns-clause-found c =
     subst (Begins c.args.fresh c.args.text.now (t.Sign r)) (ap length (sym c.sign_text.ensures))
     (sign_begins c.args.fresh c.args.text.now r
     (at_chars _ _ _ _ _ _ _ _ c.longest_sign.result (Some r) c.char_at.ensures c.char_at-next.ensures c.char_at-third.ensures c.char_at-2.ensures c.longest_sign.ensures c.in_ok-sign.was)
-    (ap (λ x. may_follow c.args.fresh r x _) (sym c.char_at-next.ensures) ∙ ap (may_follow c.args.fresh r c.char_at-next.result) (sym c.char_at-third.ensures) ∙ sym c.may_follow.ensures ∙ c.if-not-may_follow.false))
+    (ap (λ x. may_follow c.args.fresh r x (get_or c.args.text.now 2 0)) (sym c.char_at-next.ensures) ∙ ap (may_follow c.args.fresh r c.char_at-next.result) (sym c.char_at-third.ensures) ∙ sym c.may_follow.ensures ∙ c.if-not-may_follow.false))
