@@ -17,3 +17,5 @@ pub mod NoSigns
 pub mod Commentary
 pub mod OneCut
 pub mod QuotedTexts
+pub mod Reading
+pub mod Encoded

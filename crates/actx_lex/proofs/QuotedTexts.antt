@@ -1,14 +1,15 @@
 -- Texts in quotes: what the code reads is the one token that begins there, and what it refuses begins none.
-use Rattle.std.proofs.Common.{◌≡◌, ◌≢◌, ◌⊎◌, inl, inr, ℕ, ◌+◌, ◌-◌, ◌<◌, ◌≤◌, Bool, true, false, cond, ◌||◌, List, [], ◌∷◌, ◌++◌, Option, Some, None, length, get_or, take, drop, refl, sym, ◌∙◌, ap, subst, arith, eqb}
-use Rattle.std.proofs.lemmas.Bool.{cond-true, cond-false, cases_Bool, or_parts, or_from, eqb-true, eqb-false, ne_eqb}
+use Rattle.std.proofs.Common.{◌≡◌, ◌≢◌, ◌⊎◌, inl, inr, ℕ, ◌+◌, ◌-◌, ◌/◌, ◌%◌, ◌<◌, ◌≤◌, Bool, true, false, cond, ◌||◌, List, [], ◌∷◌, ◌++◌, Option, Some, None, length, get_or, take, drop, refl, sym, ◌∙◌, ap, subst, arith, eqb, ltb, All, IfSome}
+use Rattle.std.proofs.lemmas.Bool.{cond_both, cond-true, cond-false, cases_Bool, ltb-true, or_parts, or_from, eqb-true, eqb-false, ne_eqb}
 use Rattle.std.proofs.lemmas.List.{append_assoc, append-nil, length-append, length-drop, take-append-drop, take_at, drop_at, get_or-take}
+use Rattle.std.proofs.lemmas.List.Elements.{All-nil, All-cons}
 use Rattle.actx_ast.specs.declared.token.TokenKind.{TokenKind}
 use Rattle.actx_ast.specs.declared.token.TokenKind.TheVariants as t
 use Rattle.actx_lex.specs.declared.escapes.Piece.{Piece}
 use Rattle.actx_lex.specs.Characters.{Inside, nothing}
 use Rattle.actx_lex.specs.Lexical.{IsQuote, IsToken, text_token, IsLexeme, IsLongest}
 use Rattle.actx_lex.specs.Lexeme.{Begins, NoToken}
-use Rattle.actx_lex.specs.Pieces.{piece_of, next_piece}
+use Rattle.actx_lex.specs.Pieces.{piece_of, next_piece, units_in}
 use Rattle.actx_lex.proofs.Classes.{quote, class_of}
 use Rattle.actx_lex.proofs.Tokens.{Quoted, token_class, quote_first, refused_class, reading, text_reading}
 use Rattle.actx_lex.proofs.Beginnings.{begins_some, begins_class}
@@ -103,3 +104,12 @@ quoted_refused text rest us h c e apart fresh k n b =
       | inl z ↦ ends_back q rest f.0 (drop n text) z f.2
       | inr z ↦ stops_back q rest f.0 f.1 (drop n text) apart z f.2 f.3
     ]
+
+-- UNITS
+-- the units of a code point have 16 bits
+pub units_fit : (code : Option ℕ) → IfSome code (λ c. c < 1114112) → All (λ u. u < 65536) (units_in code)
+units_fit None h = All-nil (λ u. u < 65536)
+units_fit (Some c) h =
+    cond_both (ltb c 65536) (c ∷ []) _ (All (λ u. u < 65536))
+    (λ e. All-cons (λ u. u < 65536) c [] (ltb-true c 65536 e) (All-nil (λ u. u < 65536)))
+    (λ e. All-cons (λ u. u < 65536) (55296 + (c - 65536) / 1024) ((56320 + (c - 65536) % 1024) ∷ []) (omega arith) (All-cons (λ u. u < 65536) (56320 + (c - 65536) % 1024) [] (omega arith) (All-nil (λ u. u < 65536))))

@@ -4,3 +4,4 @@ pub mod Lexeme
 pub mod Pieces
 pub mod Places
 pub mod Counting
+pub mod Spots

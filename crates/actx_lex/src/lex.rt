@@ -1,19 +1,22 @@
 //! From a text to its tokens (ECMA-262, 12), each the longest that begins at its place.
 
 ghost use Rattle.std.specs.Prelude.{◌≡◌, ◌<◌, ◌≤◌, ◌^◌, ◌↔◌, ℕ, List, length, All, Bool, true, false, IfOk, IfErr, IsErrOf, ◌≢◌};
+ghost use Rattle.std.specs.Str.{chars};
 ghost use Rattle.actx_ast.specs.Words.{HasForm};
 ghost use Rattle.actx_lex.specs.declared.token.Side.TheVariants.{Source as source};
 ghost use Rattle.actx_lex.specs.declared.token.Token.{Token};
 ghost use Rattle.actx_lex.specs.declared.lex.LexFault.TheVariants.{NoMemory as no_memory};
 ghost use Rattle.actx_lex.specs.Lexical as spec;
 ghost use Rattle.actx_lex.specs.Lexeme as lexeme;
+ghost use Rattle.actx_lex.specs.Spots.{place_of};
 
-use super::characters::{has_line_end, is_digit, is_name_start, size_of};
+use super::characters::{char_at, is_digit, is_name_start};
 use super::comments::gap_len;
 use super::lexeme::Lexeme;
 use super::names::first_word;
 use super::numbers::{begins_number, first_number};
 use super::signs::first_sign;
+use super::spot::Spot;
 use super::texts::first_text;
 use super::token::{Side, Token, Tokens};
 use actx_data::NoMemory;
@@ -89,12 +92,19 @@ pub fn lex(alloc: Global, text: &[u8], side: Side) -> Result<Tokens, LexFault>
         Ok(valid) => valid,
         Err(fault) => return Err(LexFault::NotUtf8(fault.valid_up_to())),
     };
-    let chars: Vec<char> = valid.chars().collect(alloc)?;
+    let chars = characters_of(alloc, valid)?;
     let list = cut(alloc, chars.as_slice())?;
     Ok(Tokens {
         list,
         end: text.len(),
     })
+}
+
+/// The characters of a text.
+fn characters_of(alloc: Global, text: &str) -> Result<Vec<char>, AllocError>
+    ensures { IfOk result (λ v. v.items ≡ chars text.now) }
+{
+    text.chars().collect(alloc)
 }
 
 /// The tokens of some characters.
@@ -106,42 +116,37 @@ fn cut(alloc: Global, chars: &[char]) -> Result<Vec<Token>, LexFault>
 {
     let mut list = Vec::new(alloc);
     let mut rest = chars;
-    let mut at = 0;
-    let mut line_before = false;
-    let mut first = true;
+    let mut spot = Spot::start();
     while !rest.is_empty() {
         let gap = gap_len(rest);
         if gap > 0 {
-            at += size_of(&rest[..gap]);
-            line_before = line_before || has_line_end(&rest[..gap]);
-            rest = &rest[gap..];
+            let (passed, left) = rest.split_at(gap);
+            spot = spot.passed(passed);
+            rest = left;
         } else {
-            let lexeme = first_lexeme(alloc, rest, line_before || first, at)?;
-            let len = lexeme.len;
+            let lexeme = first_lexeme(alloc, rest, spot)?;
+            let (word, left) = rest.split_at(lexeme.len);
             let kind = lexeme.kind;
             list.push(Token {
                 kind,
-                at,
-                line_before,
+                at: spot.at,
+                line_before: spot.line_before,
             })?;
-            at += size_of(&rest[..len]);
-            rest = &rest[len..];
-            line_before = false;
-            first = false;
+            spot = spot.behind(word);
+            rest = left;
         }
     }
     Ok(list)
 }
 
-/// The token that a text begins with, which stands at a byte place; `fresh` says that only white space and comments stand
-/// before it on its line.
-fn first_lexeme(alloc: Global, text: &[char], fresh: bool, at: usize) -> Result<Lexeme, LexFault>
+/// The token that a text begins with.
+fn first_lexeme(alloc: Global, text: &[char], spot: Spot) -> Result<Lexeme, LexFault>
     requires some { 0 < length text.now }
-    ensures found { IfOk result (λ l. lexeme.Begins fresh text.now l.kind l.len) }
+    ensures found { IfOk result (λ l. lexeme.Begins (spec.is_fresh (place_of spot)) text.now l.kind l.len) }
     ensures form { IfOk result (λ l. HasForm l.kind) }
-    ensures fault { IfErr result (lexeme.NoTokenAt fresh text.now at) }
+    ensures fault { IfErr result (lexeme.NoTokenAt (spec.is_fresh (place_of spot)) text.now spot.at) }
 {
-    let first = text[0];
+    let first = char_at(text, 0);
     let lexeme = if is_name_start(first) {
         Some(first_word(alloc, text)?)
     } else if is_digit(first) {
@@ -149,9 +154,9 @@ fn first_lexeme(alloc: Global, text: &[char], fresh: bool, at: usize) -> Result<
     } else if first == '"' || first == '\'' {
         first_text(alloc, text)?
     } else {
-        first_sign(text, fresh)
+        first_sign(text, spot.is_fresh())
     };
-    lexeme.ok_or(fault_at(text, at))
+    lexeme.ok_or(fault_at(text, spot.at))
 }
 
 /// The fault of a text that begins with no token.

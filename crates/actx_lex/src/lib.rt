@@ -11,5 +11,6 @@ mod names;
 mod numbers;
 pub mod place;
 mod signs;
+mod spot;
 mod texts;
 pub mod token;
