@@ -16,8 +16,8 @@ utf8_from : {text cs : List ℕ} → IsText text cs → IsUtf8 text
 utf8_from {text} {cs} t = (cs, (t.scalars, sym t.encoded))
 
 pub not_text : (text : List ℕ) (n : ℕ) → (IsUtf8 text → ⊥) → IsValidUpTo text n → NotText text n
-not_text text n no v = record {
-  none = λ cs t. no (utf8_from t);
+not_text text n never v = record {
+  none = λ cs t. never (utf8_from t);
   within = let short = v.short in omega arith;
   chars = v.front.0;
   front = record { scalars = v.front.1.0; encoded = sym v.front.1.1 };

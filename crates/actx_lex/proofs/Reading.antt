@@ -1,5 +1,5 @@
 -- A reading goes on by a gap or a token, and stops where neither begins.
-use Rattle.std.proofs.Common.{◌≡◌, ◌<◌, ℕ, Bool, true, false, cond, List, [], ◌∷◌, ◌++◌, length, take, drop, refl, sym, ◌∙◌, ap, subst}
+use Rattle.std.proofs.Common.{◌≡◌, ◌<◌, ℕ, Bool, true, false, cond, List, [], ◌∷◌, ◌++◌, length, take, drop, refl, sym, ◌∙◌, ap, subst, Result, Ok, Err, IsErrAnd, IfErr}
 use Rattle.std.proofs.lemmas.List.{append-nil, take-append-drop}
 use Rattle.actx_ast.specs.declared.token.TokenKind.{TokenKind}
 use Rattle.actx_lex.specs.declared.token.Token.{Token}
@@ -47,3 +47,11 @@ cut_fault chars rest ts p (fault.BadNumber n) some a g h = record { tokens = ts;
 cut_fault chars rest ts p fault.NoMemory some a g h = tt
 cut_fault chars rest ts p (fault.NotUtf8 n) some a g h = h
 cut_fault chars rest ts p fault.TooLong some a g h = h
+
+-- an error that is handed on
+pub err_says : {T E : Type 0} (r : Result T E) (x : E) (P : E → Type 0) → IsErrAnd r (λ e. e ≡ x) → P x → IfErr r P
+err_says (Ok v) x P h p = absurd h
+err_says (Err e) x P h p = subst P (sym h) p
+
+pub err_same : {T E : Type 0} (r : Result T E) (x y : E) → IsErrAnd r (λ e. e ≡ x) → r ≡ Err y → x ≡ y
+err_same r x y h e = sym (subst (λ v. IsErrAnd v (λ e. e ≡ x)) e h)
