@@ -19,3 +19,4 @@ pub mod OneCut
 pub mod QuotedTexts
 pub mod Reading
 pub mod Encoded
+pub mod Counted

@@ -1,6 +1,6 @@
 //! Places in a text by bytes, and their lines and columns.
 
-ghost use Rattle.std.specs.Prelude.{◌≤◌, List, ℕ, length, take};
+ghost use Rattle.std.specs.Prelude.{◌≡◌, ◌≤◌, List, ℕ, length, take, slice_index};
 ghost use Rattle.actx_lex.specs.Lexical.{IsText};
 ghost use Rattle.actx_lex.specs.Places.{IsPlace};
 
@@ -14,7 +14,8 @@ pub fn place(text: &[u8], at: usize) -> Place
     ensures { IsPlace text.now at result.line result.column }
 {
     let mut place = Place { line: 1, column: 1 };
-    let Ok(before) = str::from_utf8(&text[..at]) else {
+    let (front, _) = text.split_at(at);
+    let Ok(before) = str::from_utf8(front) else {
         return place;
     };
     let mut returned = false;
@@ -22,7 +23,18 @@ pub fn place(text: &[u8], at: usize) -> Place
         place = next_place(settled(place, returned, c == '\n'), c);
         returned = c == '\r';
     }
-    settled(place, returned, at < text.len() && text[at] == b'\n')
+    settled(place, returned, byte_at(text, at) == b'\n')
+}
+
+/// The byte at an index, or 0 past the end.
+fn byte_at(text: &[u8], index: usize) -> u8
+    ensures { result ≡ slice_index text.now index }
+{
+    if index < text.len() {
+        text[index]
+    } else {
+        0
+    }
 }
 
 #[cfg(test)]
