@@ -49,9 +49,9 @@ pub start_part : (c : ℕ) → IsTrue (is_name_start c) → IsTrue (is_name_part
 start_part c h =
     elim (or_cases (eqb c 36 || eqb c 95) (is_xid_start c) h) [
       | inl low ↦ elim (or_cases (eqb c 36) (eqb c 95) low) [
-          | inl e ↦ ap (λ b. b || is_xid_continue c) e
-          | inr e ↦ subst (λ x. IsTrue (is_name_part x)) (sym (eqb-true c 95 e)) low_line
-        ]
+        | inl e ↦ ap (λ b. b || is_xid_continue c) e
+        | inr e ↦ subst (λ x. IsTrue (is_name_part x)) (sym (eqb-true c 95 e)) low_line
+      ]
       | inr x ↦ or_right (eqb c 36) (is_xid_continue c) (is_xid_start-is_xid_continue c x)
     ]
 
@@ -60,6 +60,7 @@ digit_part c h = or_right (eqb c 36) (is_xid_continue c) (is_xid_continue-ascii 
   where
     below : (c : ℕ) → IsTrue (is_digit c) → c < 128
     below c h = grind arith
+
     numeric : (c : ℕ) → IsTrue (is_digit c) → is_ascii_alphanumeric c ≡ true
     numeric c h = grind arith
 
@@ -156,12 +157,12 @@ other_class c n d q =
     elim (cases_Bool (is_blank c)) [
       | inl b ↦ inl (from_quote c d q ∙ cond-true (is_blank c) blank _ b)
       | inr b ↦ inr (elim (cases_lt c 128) [
-          | inl low ↦
-              from_blank c d q b ∙ cond-false (is_letter c) word (wide_class c) (sym (start_letter c low) ∙ n)
-              ∙ cond-true (ltb c 128) mark _ (lt-ltb c 128 low)
-          | inr high ↦
-              from_blank c d q b ∙ cond-false (is_letter c) word (wide_class c) (wide_letter c high)
-              ∙ cond-false (ltb c 128) mark _ (le-ltb c 128 high)
-              ∙ cond-false (is_name_start c) word mark n
-        ])
+        | inl low ↦
+            from_blank c d q b ∙ cond-false (is_letter c) word (wide_class c) (sym (start_letter c low) ∙ n)
+            ∙ cond-true (ltb c 128) mark _ (lt-ltb c 128 low)
+        | inr high ↦
+            from_blank c d q b ∙ cond-false (is_letter c) word (wide_class c) (wide_letter c high)
+            ∙ cond-false (ltb c 128) mark _ (le-ltb c 128 high)
+            ∙ cond-false (is_name_start c) word mark n
+      ])
     ]

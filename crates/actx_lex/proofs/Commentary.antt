@@ -176,18 +176,19 @@ lines_once (c ∷ cs) (d ∷ ds) x y a b h g e =
     let z = r.0 in (cc, r.1)
 
 same_cut : (w v x y : List ℕ) → length w ≡ length v → w ++ x ≡ v ++ y → (w ≡ v) × (x ≡ y)
-same_cut w v x y e f =
-    (sym (take_at w x (length w) refl) ∙ ap (take (length w)) f ∙ take_at v y (length w) (sym e),
-      sym (drop_at w x (length w) refl) ∙ ap (drop (length w)) f ∙ drop_at v y (length w) (sym e))
+same_cut w v x y e f = (
+  sym (take_at w x (length w) refl) ∙ ap (take (length w)) f ∙ take_at v y (length w) (sym e),
+  sym (drop_at w x (length w) refl) ∙ ap (drop (length w)) f ∙ drop_at v y (length w) (sym e),
+)
 
 blocks_once : (cs ds x y : List ℕ) → NoneInside cs → NoneInside ds → cs ++ 42 ∷ 47 ∷ x ≡ ds ++ 42 ∷ 47 ∷ y → (cs ≡ ds) × (x ≡ y)
 blocks_once cs ds x y a b e =
     elim (cases_order (length cs) (length ds)) [
       | inl same ↦ let r = same_cut cs ds (42 ∷ 47 ∷ x) (42 ∷ 47 ∷ y) same e in (r.0, ap (drop 2) r.1)
       | inr o ↦ elim o [
-          | inl lt ↦ absurd (inside_none ds y (length cs) b lt (subst (λ v. EndsAt v (length cs)) e (ends_at cs x)))
-          | inr gt ↦ absurd (inside_none cs x (length ds) a gt (subst (λ v. EndsAt v (length ds)) (sym e) (ends_at ds y)))
-        ]
+        | inl lt ↦ absurd (inside_none ds y (length cs) b lt (subst (λ v. EndsAt v (length cs)) e (ends_at cs x)))
+        | inr gt ↦ absurd (inside_none cs x (length ds) a gt (subst (λ v. EndsAt v (length ds)) (sym e) (ends_at ds y)))
+      ]
     ]
 
 -- a gap by its form

@@ -56,8 +56,10 @@ escape_single c rest h =
     none : {b : Bool} → cond b false true ≡ true → b ≡ false
     none {b = true} e = absurd (false≢true e)
     none {b = false} e = refl
+
     no_return : is_line_end c ≡ false → eqb c 13 ≡ false
     no_return e = grind arith
+
     no_zero : is_digit c ≡ false → eqb c 48 ≡ false
     no_zero e = ne_eqb c 48 (λ f. both_ways (is_digit c) e (ap is_digit f))
 
@@ -141,15 +143,23 @@ run_of {q} h (four_hex {a} {b} {c} {d} {cs} {us} e i) =
     let small : v < 65536 = hex_small (a ∷ b ∷ c ∷ d ∷ []) 4 refl (omega arith) e in
     let apart : eqb a 123 ≡ false = hex_apart a (All-head (λ c. IsTrue (is_hex c)) a (b ∷ c ∷ d ∷ []) e) in
     subst (λ ws. Run q (92 ∷ 117 ∷ a ∷ b ∷ c ∷ d ∷ cs) (ws ++ us)) (small_units v small)
-    (on (92 ∷ 117 ∷ a ∷ b ∷ c ∷ d ∷ []) (Some v) (record { some = lit< tt; first = backslash_apart q h; is = λ x.
-      escaped 117 (a ∷ b ∷ c ∷ d ∷ (cs ++ q ∷ x)) ∙ cond-false (eqb a 123) _ _ apart ∙ fixed_found (a ∷ b ∷ c ∷ d ∷ []) (cs ++ q ∷ x) 4 refl (omega arith) e }) (run_of h i))
+    (on (92 ∷ 117 ∷ a ∷ b ∷ c ∷ d ∷ []) (Some v) (record {
+      some = lit< tt;
+      first = backslash_apart q h;
+      is = λ x.
+          escaped 117 (a ∷ b ∷ c ∷ d ∷ (cs ++ q ∷ x)) ∙ cond-false (eqb a 123) _ _ apart ∙ fixed_found (a ∷ b ∷ c ∷ d ∷ []) (cs ++ q ∷ x) 4 refl (omega arith) e;
+    }) (run_of h i))
 run_of {q} h (braced_hex {h = f} hs {cs} {us} e l i) =
     let w = f ∷ hs in
     let regroup : (r : List ℕ) → (hs ++ 125 ∷ []) ++ r ≡ hs ++ 125 ∷ r = λ r. append_assoc hs (125 ∷ []) r in
     let long : length (92 ∷ 117 ∷ 123 ∷ f ∷ (hs ++ 125 ∷ [])) ≡ length w + 4 = omega (arith, length-append hs (125 ∷ [])) in
     subst (λ r. Run q (92 ∷ 117 ∷ 123 ∷ f ∷ r) (units_of (hex_on 0 w) ++ us)) (regroup cs)
-    (on (92 ∷ 117 ∷ 123 ∷ f ∷ (hs ++ 125 ∷ [])) (Some (hex_on 0 w)) (record { some = omega arith; first = backslash_apart q h; is = λ x.
-      escaped 117 (123 ∷ f ∷ ((hs ++ 125 ∷ []) ++ (cs ++ q ∷ x))) ∙ ap (λ r. braced (f ∷ r)) (regroup (cs ++ q ∷ x)) ∙ braced_found w (cs ++ q ∷ x) (omega arith) e l ∙ ap (λ n. piece n (Some (hex_on 0 w))) (sym long) }) (run_of h i))
+    (on (92 ∷ 117 ∷ 123 ∷ f ∷ (hs ++ 125 ∷ [])) (Some (hex_on 0 w)) (record {
+      some = omega arith;
+      first = backslash_apart q h;
+      is = λ x.
+          escaped 117 (123 ∷ f ∷ ((hs ++ 125 ∷ []) ++ (cs ++ q ∷ x))) ∙ ap (λ r. braced (f ∷ r)) (regroup (cs ++ q ∷ x)) ∙ braced_found w (cs ++ q ∷ x) (omega arith) e l ∙ ap (λ n. piece n (Some (hex_on 0 w))) (sym long);
+    }) (run_of h i))
 run_of {q} h (line_end {c} {cs} e i) = on (92 ∷ c ∷ []) None (record { some = lit< tt; first = backslash_apart q h; is = λ x. escaped c (cs ++ q ∷ x) ∙ escape_line_end c (cs ++ q ∷ x) e (no_feed x h i) }) (run_of h i)
 run_of {q} h (crlf {cs} i) = on (92 ∷ 13 ∷ 10 ∷ []) None (record { some = lit< tt; first = backslash_apart q h; is = λ x. escaped 13 (10 ∷ (cs ++ q ∷ x)) }) (run_of h i)
 
@@ -166,9 +176,10 @@ pub same_piece : (w v : List ℕ) (code mode : Option ℕ) → piece (length w) 
 same_piece w v code mode e = (ap len_of e, ap code_of e)
 
 same_front : (w v x y : List ℕ) → length w ≡ length v → w ++ x ≡ v ++ y → (w ≡ v) × (x ≡ y)
-same_front w v x y e f =
-    (sym (take_at w x (length w) refl) ∙ ap (take (length w)) f ∙ take_at v y (length w) (sym e),
-      sym (drop_at w x (length w) refl) ∙ ap (drop (length w)) f ∙ drop_at v y (length w) (sym e))
+same_front w v x y e f = (
+  sym (take_at w x (length w) refl) ∙ ap (take (length w)) f ∙ take_at v y (length w) (sym e),
+  sym (drop_at w x (length w) refl) ∙ ap (drop (length w)) f ∙ drop_at v y (length w) (sym e),
+)
 
 first_of : (w rest : List ℕ) → 0 < length w → get_or (w ++ rest) 0 0 ≡ get_or w 0 0
 first_of [] rest h = absurd (omega arith)

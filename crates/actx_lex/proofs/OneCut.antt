@@ -67,9 +67,10 @@ gap_token : (w v x y : List ℕ) (fresh : Bool) (k : TokenKind) (n : ℕ) → w 
 gap_token w v x y fresh k n e g b = start_token (w ++ x) fresh k n (gap_start g) (subst (λ t. Begins fresh t k n) (sym e) b)
 
 same_cut : (w v x y : List ℕ) → length w ≡ length v → w ++ x ≡ v ++ y → (w ≡ v) × (x ≡ y)
-same_cut w v x y e f =
-    (sym (take_at w x (length w) refl) ∙ ap (take (length w)) f ∙ take_at v y (length w) (sym e),
-      sym (drop_at w x (length w) refl) ∙ ap (drop (length w)) f ∙ drop_at v y (length w) (sym e))
+same_cut w v x y e f = (
+  sym (take_at w x (length w) refl) ∙ ap (take (length w)) f ∙ take_at v y (length w) (sym e),
+  sym (drop_at w x (length w) refl) ∙ ap (drop (length w)) f ∙ drop_at v y (length w) (sym e),
+)
 
 -- ONE CUT
 more_same : (p : Place) {k j : TokenKind} {ts us : List Token} → k ≡ j → ts ≡ us → token_at k p ∷ ts ≡ token_at j p ∷ us

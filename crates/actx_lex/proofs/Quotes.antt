@@ -130,8 +130,8 @@ letter_sound q c rest nx nu =
     (λ e. lone_sound q c rest None (λ cs us x f i. line_end e i))
     (λ nl. cond_both (eqb c 48 && not (is_digit (get_or rest 0 0))) (piece 2 (Some 0)) _ (IfSound q (92 ∷ c ∷ rest))
     (λ e. let p = and_parts (eqb c 48) (not (is_digit (get_or rest 0 0))) e in
-      subst (λ v. Sound q (92 ∷ v ∷ rest) (record { len = 2; code = Some 0 })) (sym (eqb-true c 48 p.0))
-      (lone_sound q 48 rest (Some 0) (λ cs us x f i. zero (cond-false (begins_digit cs) false true (digit_free q cs x rest f (not-true (is_digit (get_or rest 0 0)) p.1))) i)))
+    subst (λ v. Sound q (92 ∷ v ∷ rest) (record { len = 2; code = Some 0 })) (sym (eqb-true c 48 p.0))
+    (lone_sound q 48 rest (Some 0) (λ cs us x f i. zero (cond-false (begins_digit cs) false true (digit_free q cs x rest f (not-true (is_digit (get_or rest 0 0)) p.1))) i)))
     (λ _. cond_both (is_digit c) None _ (IfSound q (92 ∷ c ∷ rest)) (λ _. tt)
     (λ nd. lone_sound q c rest (Some (single_escape c)) (λ cs us x f i. single (escaped_from c nl nd nx nu) i)))))
 
@@ -189,6 +189,7 @@ goes_back q rest ds vs x p n e f (on w {cs} {us} code s r) =
     len_of : Option Piece → ℕ
     len_of None = 0
     len_of (Some p) = p.len
+
     same_piece_len : (p : Piece) (n : ℕ) (code : Option ℕ) → Some p ≡ piece n code → p.len ≡ n
     same_piece_len p n code e = ap len_of e
 

@@ -69,7 +69,10 @@ fn escape(c: char, rest: &[char]) -> Option<Piece>
     } else if is_line_end(c) {
         Some(Piece { len: 2, code: None })
     } else if c == '0' && !is_digit(char_at(rest, 0)) {
-        Some(Piece { len: 2, code: Some(0) })
+        Some(Piece {
+            len: 2,
+            code: Some(0),
+        })
     } else if is_digit(c) {
         None
     } else {

@@ -173,14 +173,12 @@ fn fault_at(text: &[char], at: usize) -> LexFault
 /// A text has one list of tokens at most.
 pub fn one_cut()
     ensures { spec.OneCut }
-{
-}
+{}
 
 /// No text that has tokens is stuck, so that a fault comes exactly where it must.
 pub fn not_stuck()
     ensures { spec.NotStuck }
-{
-}
+{}
 
 #[cfg(test)]
 mod tests;

@@ -30,11 +30,7 @@ pub fn place(text: &[u8], at: usize) -> Place
 fn byte_at(text: &[u8], index: usize) -> u8
     ensures { result ≡ slice_index text.now index }
 {
-    if index < text.len() {
-        text[index]
-    } else {
-        0
-    }
+    if index < text.len() { text[index] } else { 0 }
 }
 
 #[cfg(test)]

@@ -1,22 +1,26 @@
 //! Texts with their tokens, and texts that are refused.
 
+use super::super::cases::spelled;
 use super::*;
 use actx_ast::token::TokenKind;
 use std::test::Fail;
 
 /// A letter for each token: n for a name, k for a reserved word, d for a number, t for a text and s for a sign; and a bar
-/// where a line end stands before it.
-fn letters_of(alloc: Global, text: &str) -> Result<String, Fail> {
+/// where a line end stands before it. A dash stands for no token, and a fault for itself.
+fn letters_of(alloc: Global, text: &str) -> Result<String, AllocError> {
     let tokens = match lex(alloc, text.as_bytes(), Side::Plain) {
         Ok(tokens) => tokens,
-        Err(fault) => return Ok(fault_text(alloc, fault)?),
+        Err(fault) => return fault_text(alloc, fault),
     };
     let mut letters = String::new(alloc);
-    for token in tokens.list {
+    for token in tokens.list.iter() {
         if token.line_before {
             letters.push('|')?;
         }
         letters.push(letter_of(&token.kind))?;
+    }
+    if letters.is_empty() {
+        letters.push('-')?;
     }
     Ok(letters)
 }
@@ -42,7 +46,7 @@ fn letter_of(token: &TokenKind) -> char {
 }
 
 /// Texts and what they give.
-const CASES: &str = "console.log(1+2*3); gives nsnsdsdsdss
+const CUT: &str = "console.log(1+2*3); gives nsnsdsdsdss
 const gives k
 constx const$ _const consT gives nnnn
 0 10 9007199254740991 gives ddd
@@ -105,74 +109,90 @@ a??=b gives token 1
 #a gives token 0
 @a gives token 0
 `a` gives token 0
+  gives -
+␊ ␉ gives -
+/* a */ /* b */ gives -
+␊a gives |n
+a␍␊b c␍d gives n|nn|n
+a¶b§c‡°␋␌d gives n|n|nn
+a/*␊*/b/*¶*/c/* */d gives n|n|nn
+a// b␊c// d␍e// f¶g gives n|n|n|n
+a␊-->b gives token 2
+a/*␊*/-->b gives token 6
+a/**/-->b gives nssn
+a␊b-->c gives n|nssn
+'a␊b' gives token 0
+'a␍b' gives token 0
+'a\\␍␊b\\␊c\\␍d\\¶e§' gives t
+é中1 é gives nn
+aé😀 gives token 3
+é 1é gives number 3
+é'\\' gives token 2
 ";
 
 #[test]
 fn texts_are_cut(rt: HostRuntime) -> Result<(), Fail> {
-    for line in CASES.lines() {
-        let Some((text, wanted)) = line.split_once(" gives ") else {
-            return Err(Fail::from("each line says what it gives"));
-        };
-        let letters = letters_of(rt.alloc(), text)?;
+    for line in CUT.lines() {
+        let (text, wanted) = line.split_once(" gives ").unwrap_or((line, ""));
+        let text = spelled(rt.alloc(), text)?;
+        let letters = letters_of(rt.alloc(), text.as_str())?;
         assert_eq!(rt; letters.as_str(), wanted, "{text}");
     }
     Ok(())
 }
 
-fn is_cut(rt: &HostRuntime, text: &str, wanted: &str) -> Result<bool, Fail> {
-    let letters = letters_of(rt.alloc(), text)?;
-    Ok(letters.as_str() == wanted)
-}
-
-#[test]
-fn line_ends_are_told(rt: HostRuntime) -> Result<(), Fail> {
-    assert!(rt; is_cut(&rt, "", "")? && is_cut(&rt, " \n ", "")? && is_cut(&rt, "/* a */ /* b */", "")?);
-    assert!(rt; is_cut(&rt, "\na", "|n")?);
-    assert!(rt; is_cut(&rt, "a\r\nb c\rd", "n|nn|n")?);
-    assert!(rt; is_cut(&rt, "a\u{2028}b\u{2029}c\u{feff}\u{a0}\u{b}\u{c}d", "n|n|nn")?);
-    assert!(rt; is_cut(&rt, "a/*\n*/b/*\u{2028}*/c/* */d", "n|n|nn")?);
-    assert!(rt; is_cut(&rt, "a// b\nc// d\re", "n|n|n")?);
-    assert!(rt; is_cut(&rt, "a\n-->b", "token 2")?);
-    assert!(rt; is_cut(&rt, "a/*\n*/-->b", "token 6")?);
-    assert!(rt; is_cut(&rt, "a/**/-->b", "nssn")?);
-    assert!(rt; is_cut(&rt, "'a\nb'", "token 0")?);
-    assert!(rt; is_cut(&rt, "'a\rb'", "token 0")?);
-    assert!(rt; is_cut(&rt, "'a\\\r\nb\\\nc\\\rd\\\u{2028}e\u{2029}'", "t")?);
-    assert!(rt; is_cut(&rt, "\u{e9}\u{4e2d}1 \u{e9}", "nn")?);
-    assert!(rt; is_cut(&rt, "a\u{e9}\u{1F600}", "token 3")?);
-    assert!(rt; is_cut(&rt, "\u{e9} 1\u{e9}", "number 3")?);
-    Ok(())
-}
-
-fn units_are(rt: &HostRuntime, text: &str, wanted: &[u16]) -> Result<bool, Fail> {
-    let Ok(tokens) = lex(rt.alloc(), text.as_bytes(), Side::Plain) else {
-        return Ok(false);
-    };
-    match tokens.list.as_slice() {
-        [Token {
+/// The units of the first token, each behind a space.
+fn units_of(alloc: Global, text: &str) -> Result<String, LexFault> {
+    let tokens = lex(alloc, text.as_bytes(), Side::Source)?;
+    let mut out = String::new(alloc);
+    if let [
+        Token {
             kind: TokenKind::Text(units),
             ..
-        }] => Ok(units.as_slice() == wanted),
-        _ => Ok(false),
+        },
+        ..,
+    ] = tokens.list.as_slice()
+    {
+        for unit in units.as_slice() {
+            let word = format!(in alloc; " {unit}")?;
+            out.push_str(word.as_str())?;
+        }
     }
+    Ok(out)
 }
+
+/// Texts in quotes and their units.
+const UNITS: &str = "'' gives
+'a😀' gives 97 55357 56832
+'\\b\\t\\n\\v\\f\\r\\0' gives 8 9 10 11 12 13 0
+'\\x4F\\u00e9\\u{1F600}\\uD800' gives 79 233 55357 56832 55296
+'a\\␍␊b\\␊\\¶\\q\\\\\\😀' gives 97 98 113 92 55357 56832
+'¶§\\u{10FFFF}\\u{0}' gives 8232 8233 56319 57343 0
+";
 
 #[test]
 fn texts_stand_for_units(rt: HostRuntime) -> Result<(), Fail> {
-    assert!(rt; units_are(&rt, "'a\u{1F600}'", &[97, 0xD83D, 0xDE00])?);
-    assert!(rt; units_are(&rt, "'\\b\\t\\n\\v\\f\\r\\0'", &[8, 9, 10, 11, 12, 13, 0])?);
-    assert!(rt; units_are(&rt, "'\\x4F\\u00e9\\u{1F600}\\uD800'", &[79, 233, 0xD83D, 0xDE00, 0xD800])?);
-    assert!(rt; units_are(&rt, "'a\\\r\nb\\\u{2028}\\q\\\\\\\u{1F600}'", &[97, 98, 113, 92, 0xD83D, 0xDE00])?);
+    for line in UNITS.lines() {
+        let (text, wanted) = line.split_once(" gives").unwrap_or((line, ""));
+        let text = spelled(rt.alloc(), text)?;
+        let units = units_of(rt.alloc(), text.as_str());
+        assert_eq!(rt; units.is_ok_and(|u| u.as_str() == wanted), true, "{text}");
+    }
     Ok(())
 }
 
+/// The fault of bytes of a user.
+fn fault_of(alloc: Global, bytes: &[u8]) -> Option<LexFault> {
+    lex(alloc, bytes, Side::Source).err()
+}
+
 #[test]
-fn texts_are_refused(rt: HostRuntime) -> Result<(), Fail> {
-    assert!(rt; matches!(lex(rt.alloc(), b"a\xFFb", Side::Plain), Err(LexFault::NotUtf8(1))));
-    assert!(rt; matches!(lex(rt.alloc(), b"# \xED\xA0\x80", Side::Plain), Err(LexFault::NotUtf8(2))));
+fn bytes_are_refused(rt: HostRuntime) -> Result<(), Fail> {
+    assert_eq!(rt; fault_of(rt.alloc(), b"a\xFFb"), Some(LexFault::NotUtf8(1)));
+    assert_eq!(rt; fault_of(rt.alloc(), b"# \xED\xA0\x80"), Some(LexFault::NotUtf8(2)));
     let long = vec![in rt.alloc(); 32u8; 1_048_577]?;
-    assert!(rt; matches!(lex(rt.alloc(), long.as_slice(), Side::Source), Err(LexFault::TooLong)));
+    assert_eq!(rt; fault_of(rt.alloc(), long.as_slice()), Some(LexFault::TooLong));
+    assert_eq!(rt; fault_of(rt.alloc(), &long[..1_048_576]), None);
     assert!(rt; lex(rt.alloc(), long.as_slice(), Side::Plain).is_ok());
-    assert!(rt; lex(rt.alloc(), &long[..1_048_576], Side::Source).is_ok());
     Ok(())
 }

@@ -9,8 +9,8 @@ returns-then-is_blank-clause-found c = λ _. blank_gap c.args.text.now c.require
 
 pub returns-then-first-ne47-clause-none : goal.returns-then-first-ne47-clause-none
 returns-then-first-ne47-clause-none c = λ _. no_gap c.args.text.now (other_start c.args.text.now
-  (ap is_blank (sym c.char_at-first.ensures) ∙ sym c.is_blank.ensures ∙ c.if-is_blank.false)
-  (λ e. c.if-first-ne47.true (c.char_at-first.ensures ∙ e)))
+    (ap is_blank (sym c.char_at-first.ensures) ∙ sym c.is_blank.ensures ∙ c.if-is_blank.false)
+    (λ e. c.if-first-ne47.true (c.char_at-first.ensures ∙ e)))
 
 pub returns-then-second-eq47-clause-found : goal.returns-then-second-eq47-clause-found
 returns-then-second-eq47-clause-found c = λ _. line_gap c.args.text.now _ c.line_len.result (take_rest c.args.text.now 2) (sym c.char_at-first.ensures ∙ c.if-first-ne47.false) (sym c.char_at-second.ensures ∙ c.if-second-eq47.true) c.line_len.ensures.run c.line_len.ensures.within
@@ -23,5 +23,5 @@ returns-then-second-eq42-clause-none c = λ none. no_gap c.args.text.now (open_s
 
 pub returns-clause-none : goal.returns-clause-none
 returns-clause-none c = λ _. no_gap c.args.text.now (slash_start c.args.text.now (sym c.char_at-first.ensures ∙ c.if-first-ne47.false)
-  (λ e. c.if-second-eq47.false (c.char_at-second.ensures ∙ e))
-  (λ e. c.if-second-eq42.false (c.char_at-second.ensures ∙ e)))
+    (λ e. c.if-second-eq47.false (c.char_at-second.ensures ∙ e))
+    (λ e. c.if-second-eq42.false (c.char_at-second.ensures ∙ e)))

@@ -7,5 +7,5 @@ abbrev pub invariant-loop-digit : goal.invariant-loop-digit
 invariant-loop-digit l = record {
   value : hex_on l.value (drop l.digit-index l.digits) ≡ hex_on 0 l.digits;
   all : list_all is_hex (drop l.digit-index l.digits) ≡ list_all is_hex l.digits;
-  small : l.value ≤ 1114111
+  small : l.value ≤ 1114111;
 }

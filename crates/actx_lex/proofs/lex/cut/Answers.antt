@@ -57,7 +57,7 @@ returns-in_err-lexeme-clause-fault c =
     let zero : c.gap_len-gap.result ≡ 0 = omega arith in
     err_says c.from_residual.result c.in_err-lexeme.field-0.0 (CutFault c.args.chars.now) c.from_residual.ensures.1
     (cut_fault c.args.chars.now rest c.loop-rest.list.items (place_of c.loop-rest.spot) c.in_err-lexeme.field-0.0
-      (some rest (sym c.is_empty.ensures ∙ c.loop-rest-test.true)) c.loop-rest.invariant.reads (c.gap_len-gap.ensures.none zero) c.in_err-lexeme.ensures.fault)
+    (some rest (sym c.is_empty.ensures ∙ c.loop-rest-test.true)) c.loop-rest.invariant.reads (c.gap_len-gap.ensures.none zero) c.in_err-lexeme.ensures.fault)
 
 pub behind-spot-requires : goal.behind-spot-requires
 behind-spot-requires c =

@@ -8,7 +8,7 @@ abbrev pub invariant-loop-rest : goal.invariant-loop-rest
 invariant-loop-rest l = record {
   reads : Reads start l.chars l.list.items (place_of l.spot) l.rest;
   left : l.spot.at + size l.rest ≡ size l.chars;
-  form : All HasForm (kinds_of l.list.items)
+  form : All HasForm (kinds_of l.list.items);
 }
 
 abbrev pub decreases-loop-rest : goal.decreases-loop-rest
