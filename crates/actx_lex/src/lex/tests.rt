@@ -150,7 +150,7 @@ fn units_of(alloc: Global, text: &str) -> Result<String, LexFault> {
             kind: TokenKind::Text(units),
             ..
         },
-        ..,
+        ..
     ] = tokens.list.as_slice()
     {
         for unit in units.as_slice() {
@@ -181,18 +181,36 @@ fn texts_stand_for_units(rt: HostRuntime) -> Result<(), Fail> {
     Ok(())
 }
 
-/// The fault of bytes of a user.
-fn fault_of(alloc: Global, bytes: &[u8]) -> Option<LexFault> {
-    lex(alloc, bytes, Side::Source).err()
+/// The fault of bytes.
+fn fault_of(alloc: Global, bytes: &[u8], side: Side) -> Option<LexFault> {
+    lex(alloc, bytes, side).err()
+}
+
+/// So many spaces.
+fn blanks(alloc: Global, count: usize) -> Result<Vec<u8>, AllocError> {
+    vec![in alloc; b' '; count]
 }
 
 #[test]
 fn bytes_are_refused(rt: HostRuntime) -> Result<(), Fail> {
-    assert_eq!(rt; fault_of(rt.alloc(), b"a\xFFb"), Some(LexFault::NotUtf8(1)));
-    assert_eq!(rt; fault_of(rt.alloc(), b"# \xED\xA0\x80"), Some(LexFault::NotUtf8(2)));
-    let long = vec![in rt.alloc(); 32u8; 1_048_577]?;
-    assert_eq!(rt; fault_of(rt.alloc(), long.as_slice()), Some(LexFault::TooLong));
-    assert_eq!(rt; fault_of(rt.alloc(), &long[..1_048_576]), None);
-    assert!(rt; lex(rt.alloc(), long.as_slice(), Side::Plain).is_ok());
+    assert_eq!(rt;
+        fault_of(rt.alloc(), b"a\xFFb", Side::Plain),
+        Some(LexFault::NotUtf8(1))
+    );
+    assert_eq!(rt;
+        fault_of(rt.alloc(), b"# \xED\xA0\x80", Side::Plain),
+        Some(LexFault::NotUtf8(2))
+    );
+    let longest = blanks(rt.alloc(), 1_048_576)?;
+    assert_eq!(rt;
+        fault_of(rt.alloc(), longest.as_slice(), Side::Source),
+        None
+    );
+    let long = blanks(rt.alloc(), 1_048_577)?;
+    assert_eq!(rt;
+        fault_of(rt.alloc(), long.as_slice(), Side::Source),
+        Some(LexFault::TooLong)
+    );
+    assert_eq!(rt; fault_of(rt.alloc(), long.as_slice(), Side::Plain), None);
     Ok(())
 }
