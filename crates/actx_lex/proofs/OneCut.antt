@@ -9,7 +9,7 @@ use Rattle.actx_ast.specs.declared.token.Sign.TheVariants as s
 use Rattle.actx_ast.specs.declared.token.TokenKind.{TokenKind}
 use Rattle.actx_ast.specs.Words.{sign_text}
 use Rattle.actx_lex.specs.declared.token.Token.{Token}
-use Rattle.actx_lex.specs.Lexical.{IsToken, IsLongest, MayFollow, Place, is_fresh, passed, behind, token_at, Reads, here, blank, comment, token, Nothing, start, IsText, Tokens, Stuck, OneCut, NotStuck}
+use Rattle.actx_lex.specs.Lexical.{IsToken, IsLongest, MayFollow, Place, is_fresh, passed, behind, token_at, Reads, here, blank, comment, token, Nothing, start, IsText, Tokens, Stuck, OneCut, NotStuck, OneStop, begins_number}
 use Rattle.actx_lex.specs.Lexeme.{Begins, Gap, blank as gap_blank, comment as gap_comment, IsGap, NoGap, NoToken}
 use Rattle.actx_lex.proofs.Classes.{mark, class_of, is_blank, blank_class}
 use Rattle.actx_lex.proofs.Tokens.{kind_class, token_class, nonempty_token, reading, mark_reading}
@@ -45,7 +45,8 @@ pub record Final (p : Place) (cs : List ℕ) : Type 0 where
   pub no_gap : NoGap cs
   pub no_token : NoToken (is_fresh p) cs
 
-pub record Agree (ts us : List Token) (left right : List ℕ) : Type 0 where
+pub record Agree (ts us : List Token) (p q : Place) (left right : List ℕ) : Type 0 where
+  pub place : p ≡ q
   pub tokens : ts ≡ us
   pub rest : left ≡ right
 
@@ -82,8 +83,8 @@ passed_same p {r} {cs} {left} {ts} w v e a = subst (λ u. Path (passed p u) cs t
 behind_same : (p : Place) {r : Place} {cs left : List ℕ} {ts : List Token} (w v : List ℕ) → w ≡ v → Path (behind p v) cs ts r left → Path (behind p w) cs ts r left
 behind_same p {r} {cs} {left} {ts} w v e a = subst (λ u. Path (behind p u) cs ts r left) (sym e) a
 
-pub paths_once : {p r q : Place} {cs ds left right : List ℕ} {ts us : List Token} → cs ≡ ds → Final r left → Final q right → Path p cs ts r left → Path p ds us q right → Agree ts us left right
-paths_once e f g stop stop = record { tokens = refl; rest = e }
+pub paths_once : {p r q : Place} {cs ds left right : List ℕ} {ts us : List Token} → cs ≡ ds → Final r left → Final q right → Path p cs ts r left → Path p ds us q right → Agree ts us r q left right
+paths_once e f g stop stop = record { place = refl; tokens = refl; rest = e }
 paths_once e f g stop (pass {cs = x} w h b) = absurd (f.no_gap w x e h)
 paths_once {p} e f g stop (meet {k} {cs = x} w h b) = absurd (f.no_token k (length w) (subst (λ t. Begins (is_fresh p) t k (length w)) (sym e) h))
 paths_once e f g (pass {cs = x} w h a) stop = absurd (g.no_gap w x (sym e) h)
@@ -97,7 +98,7 @@ paths_once {p} e f g (meet {k} {cs = x} w h a) (meet {k = j} {cs = y} v i b) =
     let o = begins_once (v ++ y) k j (length w) (length v) (subst (λ t. Begins (is_fresh p) t k (length w)) e h) i in
     let s = same_cut w v x y o.1 e in
     let r = paths_once s.1 f g a (behind_same p w v s.0 b) in
-    record { tokens = more_same p o.0 r.tokens; rest = r.rest }
+    record { place = r.place; tokens = more_same p o.0 r.tokens; rest = r.rest }
 
 nothing_final : (p : Place) (cs : List ℕ) → Nothing p cs → Final p cs
 nothing_final p cs n = record {
@@ -136,3 +137,8 @@ pub not_stuck : NotStuck
 not_stuck text ts number n a b =
     let r = paths_once (same_chars a.is b.is) (end_final a.last) (nothing_final b.place b.left b.nothing) (path_of a.reads) (path_of b.reads) in
     b.nothing.more (sym r.rest)
+
+pub one_stop : OneStop
+one_stop text number other n m a b =
+    let r = paths_once (same_chars a.is b.is) (nothing_final a.place a.left a.nothing) (nothing_final b.place b.left b.nothing) (path_of a.reads) (path_of b.reads) in
+    (sym a.kind ∙ ap begins_number r.rest ∙ b.kind, sym a.at ∙ ap (λ (p : Place). p.at) r.place ∙ b.at)

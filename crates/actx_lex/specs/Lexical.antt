@@ -199,3 +199,6 @@ OneCut = (text : List ℕ) (ts us : List Token) → Tokens text ts → Tokens te
 
 abbrev pub NotStuck : Type 0
 NotStuck = (text : List ℕ) (ts : List Token) (number : Bool) (n : ℕ) → Tokens text ts → Stuck text number n → ⊥
+
+abbrev pub OneStop : Type 0
+OneStop = (text : List ℕ) (number other : Bool) (n m : ℕ) → Stuck text number n → Stuck text other m → (number ≡ other) × (n ≡ m)

@@ -180,5 +180,10 @@ pub fn not_stuck()
     ensures { spec.NotStuck }
 {}
 
+/// A text is stuck at one place at most.
+pub fn one_stop()
+    ensures { spec.OneStop }
+{}
+
 #[cfg(test)]
 mod tests;
