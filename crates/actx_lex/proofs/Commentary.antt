@@ -1,12 +1,12 @@
 -- What stands between tokens begins no token, and ends at one place.
-use Rattle.std.proofs.Common.{◌≡◌, ◌≢◌, ◌⊎◌, inl, inr, ℕ, zero, suc, ◌+◌, ◌-◌, ◌<◌, ◌≤◌, Bool, true, false, not, ◌||◌, IsTrue, List, [], ◌∷◌, ◌++◌, length, get_or, take, drop, refl, sym, ◌∙◌, ap, subst, arith, lit<}
+use Rattle.std.proofs.Common.{◌≡◌, ◌≢◌, inl, inr, ℕ, zero, suc, ◌+◌, ◌<◌, ◌≤◌, false, not, IsTrue, List, [], ◌∷◌, ◌++◌, length, get_or, take, drop, refl, sym, ◌∙◌, ap, subst, arith, lit<}
 use Rattle.std.specs.List.{prefix_len}
 use Rattle.std.proofs.lemmas.Bool.{both_ways, or_parts, or_from, cases_order, not-true, not-false, cond_both, false≢true}
-use Rattle.std.proofs.lemmas.List.{append_assoc, length-append, length-take, length-drop, get_or_at, get_or-take, get_or_append_left, get_or-append_right, get_or-append-add, take-append-drop, take_at, drop_at, take_more, drop_more, take-append-le}
-use Rattle.actx_lex.specs.Characters.{is_line_end, is_space}
-use Rattle.actx_lex.specs.Lexical.{IsComment, line_comment, block_comment, has_line_end, begins_line_end}
+use Rattle.std.proofs.lemmas.List.{append_assoc, length-append, length-take, get_or_at, get_or_append_left, get_or-append-add, take-append-drop, take_at, drop_at, drop_more}
+use Rattle.actx_lex.specs.Characters.{is_line_end}
+use Rattle.actx_lex.specs.Lexical.{line_comment, block_comment, has_line_end, begins_line_end}
 use Rattle.actx_lex.specs.Lexeme.{Gap, blank, comment, IsGap, NoGap, is_inside_line, EndsAt, FirstEnd, no_end, first_end}
-use Rattle.actx_lex.proofs.Classes.{Class, mark, class_of, is_blank}
+use Rattle.actx_lex.proofs.Classes.{is_blank}
 
 -- the characters that end a block comment, and those before
 ends_at : (cs rest : List ℕ) → EndsAt (cs ++ 42 ∷ 47 ∷ rest) (length cs)

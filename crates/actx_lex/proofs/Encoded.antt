@@ -1,6 +1,6 @@
 -- A text and its characters.
-use Rattle.std.proofs.Common.{◌≡◌, ◌<◌, ◌≤◌, ℕ, Bool, true, List, length, take, refl, sym, ◌∙◌, ap, arith}
-use Rattle.std.specs.Str.{chars, IsUtf8, IsValidUpTo, all_scalars, encode_utf8_all}
+use Rattle.std.proofs.Common.{◌≡◌, ℕ, Bool, List, length, sym, ap, arith}
+use Rattle.std.specs.Str.{chars, IsUtf8, IsValidUpTo}
 use Rattle.std.proofs.lemmas.Str.{scalars-chars, encodes-chars}
 use Rattle.actx_lex.specs.declared.token.Token.{Token}
 use Rattle.actx_lex.specs.Lexical.{size, IsText, NotText, Tokens, Stuck}

@@ -1,11 +1,11 @@
 -- What stands between quotes is read in one way: Inside as a run of pieces.
-use Rattle.std.proofs.Common.{◌≡◌, ◌≢◌, ◌⊎◌, inl, inr, ℕ, suc, ◌+◌, ◌*◌, ◌-◌, ◌/◌, ◌%◌, ◌<◌, ◌≤◌, Bool, true, false, not, cond, ◌&&◌, ◌||◌, List, [], ◌∷◌, ◌++◌, Option, Some, None, length, get_or, take, drop, refl, sym, ◌∙◌, ap, subst, arith, IsTrue, eqb, ltb, leb, lit<}
-use Rattle.std.specs.List.{prefix_len, list_all}
-use Rattle.std.proofs.lemmas.Bool.{cond-true, cond-false, cases_Bool, or_parts, or_cases, and_left, and_right, and_parts, or_from, ne_eqb, eqb-true, both_ways, le-ltb, lt-ltb, le-leb, false≢true}
+use Rattle.std.proofs.Common.{◌≡◌, ◌≢◌, inl, inr, ℕ, ◌+◌, ◌<◌, ◌≤◌, Bool, true, false, not, cond, ◌&&◌, ◌||◌, List, [], ◌∷◌, ◌++◌, Option, Some, None, length, get_or, take, drop, refl, sym, ◌∙◌, ap, subst, arith, IsTrue, eqb, ltb, lit<}
+use Rattle.std.specs.List.{prefix_len}
+use Rattle.std.proofs.lemmas.Bool.{cond-true, cond-false, or_parts, and_left, and_right, or_from, ne_eqb, both_ways, le-ltb, lt-ltb, false≢true}
 use Rattle.std.proofs.lemmas.List.{append_assoc, length-append, get_or_at, take_at, drop_at}
 use Rattle.std.proofs.lemmas.List.Elements.{All-head, All-tail}
 use Rattle.actx_lex.specs.declared.escapes.Piece.{Piece}
-use Rattle.actx_lex.specs.Characters.{AllPass, is_line_end, is_digit, is_hex, hex_value, hex_on, units_of, single_escape, is_escaped, begins_digit, Inside, nothing, itself, single, zero, two_hex, four_hex, braced_hex, line_end, crlf}
+use Rattle.actx_lex.specs.Characters.{AllPass, is_line_end, is_digit, is_hex, hex_on, units_of, single_escape, is_escaped, begins_digit, Inside, nothing, itself, single, zero, two_hex, four_hex, braced_hex, line_end, crlf}
 use Rattle.actx_lex.specs.Lexical.{IsQuote}
 use Rattle.actx_lex.specs.Pieces.{hex_number, piece, by_number, fixed, braced, escape, piece_of, units_in}
 use Rattle.actx_lex.proofs.Hexadecimals.{hex_found, all_hex, hex_small}

@@ -1,5 +1,5 @@
 -- Where the code finds no sign, none begins there.
-use Rattle.std.proofs.Common.{◌≡◌, ◌≢◌, inl, inr, ℕ, ◌+◌, ◌<◌, Bool, true, false, not, ◌&&◌, List, [], ◌∷◌, ◌++◌, Some, None, get_or, take, drop, refl, sym, ◌∙◌, ap, subst, arith, eqb, lit<}
+use Rattle.std.proofs.Common.{◌≡◌, inl, inr, ℕ, ◌+◌, ◌<◌, Bool, true, false, not, ◌&&◌, List, [], ◌∷◌, ◌++◌, Some, None, get_or, take, drop, refl, sym, ◌∙◌, ap, subst, arith, eqb, lit<}
 use Rattle.std.proofs.lemmas.Bool.{cond_both, eqb-true, and_parts, and_from, not-true}
 use Rattle.std.proofs.lemmas.List.{take-append-drop, drop-drop, get_or-drop}
 use Rattle.actx_ast.specs.declared.token.Sign.{Sign}

@@ -1,5 +1,5 @@
 -- Numbers: what the code reads is the one token that begins there, and what it refuses begins none.
-use Rattle.std.proofs.Common.{◌≡◌, inl, inr, ℕ, ◌+◌, ◌-◌, ◌<◌, ◌≤◌, Bool, true, false, cond, ◌||◌, List, [], ◌∷◌, ◌++◌, length, get_or, take, drop, refl, sym, ◌∙◌, ap, subst, arith, IsTrue, eqb}
+use Rattle.std.proofs.Common.{◌≡◌, inl, inr, ℕ, ◌<◌, ◌≤◌, Bool, true, false, cond, ◌||◌, List, [], ◌∷◌, length, get_or, take, drop, refl, sym, ◌∙◌, ap, subst, arith, IsTrue, eqb}
 use Rattle.std.specs.Str.Parse.{digits_value}
 use Rattle.std.specs.List.{prefix_len}
 use Rattle.std.proofs.lemmas.Bool.{false≢true, cases_eq, false_from_ne_true, both_ways, cond-true, or_left}
@@ -13,7 +13,7 @@ use Rattle.actx_lex.specs.Characters.{is_digit, AllPass}
 use Rattle.actx_lex.specs.Lexical.{IsDecimal, just_zero, digits_on, number_token, IsLexeme, begins_free, MayFollow}
 use Rattle.actx_lex.specs.Lexeme.{Begins}
 use Rattle.actx_lex.proofs.Classes.{digit, class_of, digit_class, digit_part}
-use Rattle.actx_lex.proofs.Tokens.{kind_class, token_class, refused_class, reading, number_reading}
+use Rattle.actx_lex.proofs.Tokens.{token_class, refused_class, reading, number_reading}
 use Rattle.actx_lex.proofs.Beginnings.{begins_some, begins_class}
 use Rattle.actx_lex.proofs.Runs.{run_passes, run_some, longest_run}
 

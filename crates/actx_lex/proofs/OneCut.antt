@@ -1,18 +1,15 @@
 -- Characters are cut in one way: a gap or a token at each place, and no two ends.
-use Rattle.std.proofs.Common.{◌≡◌, ◌≢◌, ◌⊎◌, inl, inr, ℕ, ◌+◌, ◌<◌, ◌≤◌, Bool, true, false, IsTrue, List, [], ◌∷◌, ◌++◌, length, get_or, take, drop, refl, sym, ◌∙◌, ap, subst, arith, eqb}
-use Rattle.std.specs.Str.{encode_utf8_all}
+use Rattle.std.proofs.Common.{◌≡◌, ℕ, ◌<◌, Bool, false, List, [], ◌∷◌, ◌++◌, length, get_or, take, drop, refl, sym, ◌∙◌, ap, subst, arith, eqb}
 use Rattle.std.proofs.lemmas.Bool.{both_ways, false_from_ne_true}
-use Rattle.std.proofs.lemmas.List.{append-nil, length-append, take_at, drop_at, take-append-drop, get_or-take}
+use Rattle.std.proofs.lemmas.List.{length-append, take_at, drop_at, take-append-drop, get_or-take}
 use Rattle.std.proofs.lemmas.Str.{encodes_same}
-use Rattle.actx_ast.specs.declared.token.Sign.{Sign}
-use Rattle.actx_ast.specs.declared.token.Sign.TheVariants as s
 use Rattle.actx_ast.specs.declared.token.TokenKind.{TokenKind}
 use Rattle.actx_ast.specs.Words.{sign_text}
 use Rattle.actx_lex.specs.declared.token.Token.{Token}
-use Rattle.actx_lex.specs.Lexical.{IsToken, IsLongest, MayFollow, Place, is_fresh, passed, behind, token_at, Reads, here, blank, comment, token, Nothing, start, IsText, Tokens, Stuck, OneCut, NotStuck, OneStop, begins_number}
-use Rattle.actx_lex.specs.Lexeme.{Begins, Gap, blank as gap_blank, comment as gap_comment, IsGap, NoGap, NoToken}
+use Rattle.actx_lex.specs.Lexical.{IsToken, IsLongest, MayFollow, Place, is_fresh, passed, behind, token_at, Reads, here, blank, comment, token, Nothing, IsText, OneCut, NotStuck, OneStop, begins_number}
+use Rattle.actx_lex.specs.Lexeme.{Begins, Gap, blank as gap_blank, comment as gap_comment, NoGap, NoToken}
 use Rattle.actx_lex.proofs.Classes.{mark, class_of, is_blank, blank_class}
-use Rattle.actx_lex.proofs.Tokens.{kind_class, token_class, nonempty_token, reading, mark_reading}
+use Rattle.actx_lex.proofs.Tokens.{reading, mark_reading}
 use Rattle.actx_lex.proofs.Beginnings.{begins_some, begins_class, no_blank_kind, begins_once}
 use Rattle.actx_lex.proofs.Commentary.{GapStart, with_blank, with_line, with_block, gap_start, gap_some, one_gap}
 use Rattle.actx_lex.proofs.SignTexts.{no_slash}

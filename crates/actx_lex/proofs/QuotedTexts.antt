@@ -1,19 +1,17 @@
 -- Texts in quotes: what the code reads is the one token that begins there, and what it refuses begins none.
-use Rattle.std.proofs.Common.{◌≡◌, ◌≢◌, ◌⊎◌, inl, inr, ℕ, ◌+◌, ◌-◌, ◌/◌, ◌%◌, ◌<◌, ◌≤◌, Bool, true, false, cond, ◌||◌, List, [], ◌∷◌, ◌++◌, Option, Some, None, length, get_or, take, drop, refl, sym, ◌∙◌, ap, subst, arith, eqb, ltb, All, IfSome}
+use Rattle.std.proofs.Common.{◌≡◌, ◌≢◌, ◌⊎◌, inl, inr, ℕ, ◌+◌, ◌-◌, ◌/◌, ◌%◌, ◌<◌, Bool, ◌||◌, List, [], ◌∷◌, ◌++◌, Option, Some, None, length, get_or, take, drop, refl, sym, ◌∙◌, ap, subst, arith, eqb, ltb, All, IfSome}
 use Rattle.std.proofs.lemmas.Bool.{cond_both, cond-true, cond-false, cases_Bool, ltb-true, or_parts, or_from, eqb-true, eqb-false, ne_eqb}
-use Rattle.std.proofs.lemmas.List.{append_assoc, append-nil, length-append, length-drop, take-append-drop, take_at, drop_at, get_or-take}
+use Rattle.std.proofs.lemmas.List.{append_assoc, append-nil, length-append, take-append-drop, take_at, get_or-take}
 use Rattle.std.proofs.lemmas.List.Elements.{All-nil, All-cons}
-use Rattle.actx_ast.specs.declared.token.TokenKind.{TokenKind}
 use Rattle.actx_ast.specs.declared.token.TokenKind.TheVariants as t
 use Rattle.actx_lex.specs.declared.escapes.Piece.{Piece}
 use Rattle.actx_lex.specs.Characters.{Inside, nothing}
 use Rattle.actx_lex.specs.Lexical.{IsQuote, IsToken, text_token, IsLexeme, IsLongest}
 use Rattle.actx_lex.specs.Lexeme.{Begins, NoToken}
 use Rattle.actx_lex.specs.Pieces.{piece_of, next_piece, units_in}
-use Rattle.actx_lex.proofs.Classes.{quote, class_of}
-use Rattle.actx_lex.proofs.Tokens.{Quoted, token_class, quote_first, refused_class, reading, text_reading}
+use Rattle.actx_lex.proofs.Tokens.{token_class, quote_first, refused_class, reading, text_reading}
 use Rattle.actx_lex.proofs.Beginnings.{begins_some, begins_class}
-use Rattle.actx_lex.proofs.Insides.{Run, run_of, once}
+use Rattle.actx_lex.proofs.Insides.{run_of, once}
 use Rattle.actx_lex.proofs.Quotes.{InQuotes, stops_back, ends_back}
 
 -- PIECES BEFORE THE QUOTE

@@ -1,18 +1,14 @@
 -- Texts in quotes: each piece that the code reads stands between quotes, and where it reads none no text goes on.
-use Rattle.std.proofs.Common.{◌≡◌, ◌≢◌, ◌⊎◌, inl, inr, ℕ, zero, suc, ◌+◌, ◌-◌, ◌<◌, ◌≤◌, Bool, true, false, not, cond, ◌&&◌, ◌||◌, List, [], ◌∷◌, ◌++◌, Option, Some, None, length, get_or, take, drop, refl, sym, ◌∙◌, ap, subst, arith, IsTrue, eqb, ltb, leb}
+use Rattle.std.proofs.Common.{◌≡◌, ◌≢◌, ℕ, zero, suc, ◌+◌, ◌<◌, ◌≤◌, Bool, true, false, not, cond, ◌&&◌, ◌||◌, List, [], ◌∷◌, ◌++◌, Option, Some, None, length, get_or, take, drop, refl, sym, ◌∙◌, ap, subst, arith, IsTrue, eqb, ltb, leb}
 use Rattle.std.specs.List.{prefix_len, list_all}
-use Rattle.std.proofs.lemmas.Bool.{cond_both, cond-true, cond-false, cases_Bool, or_parts, and_parts, eqb-true, eqb-false, leb-true, lt-ltb, not-true, false_from_ne_true}
-use Rattle.std.proofs.lemmas.List.{append_assoc, append-nil, length-append, length-take, length-drop, take-append-drop, drop_at, take_more, drop_more, get_or-take, get_or-drop}
-use Rattle.std.proofs.lemmas.List.Elements.{All-head, All-tail}
+use Rattle.std.proofs.lemmas.Bool.{cond_both, cond-false, or_parts, and_parts, eqb-true, eqb-false, leb-true, not-true}
+use Rattle.std.proofs.lemmas.List.{append_assoc, length-append, length-take, take-append-drop, drop_at, take_more}
 use Rattle.std.proofs.lemmas.List.Sums.{AllPass-from_list_all, prefix_len-le-length}
-use Rattle.actx_ast.specs.declared.token.TokenKind.{TokenKind}
-use Rattle.actx_ast.specs.declared.token.TokenKind.TheVariants as t
 use Rattle.actx_lex.specs.declared.escapes.Piece.{Piece}
-use Rattle.actx_lex.specs.Characters.{AllPass, is_line_end, is_digit, is_hex, hex_on, units_of, single_escape, is_escaped, begins_digit, Inside, nothing, itself, single, zero, two_hex, four_hex, braced_hex, line_end, crlf}
-use Rattle.actx_lex.specs.Lexical.{IsQuote}
+use Rattle.actx_lex.specs.Characters.{AllPass, is_line_end, is_digit, is_hex, hex_on, units_of, single_escape, is_escaped, begins_digit, Inside, itself, single, zero, two_hex, four_hex, braced_hex, line_end, crlf}
 use Rattle.actx_lex.specs.Pieces.{hex_number, piece, by_number, fixed, braced, escape, piece_of, units_in}
 use Rattle.actx_lex.proofs.Hexadecimals.{hex_small}
-use Rattle.actx_lex.proofs.Insides.{Step, Run, ended, on, apart, run_of, same_piece, small_units}
+use Rattle.actx_lex.proofs.Insides.{Run, ended, on, small_units}
 
 -- a piece of a text fits, and stands before what goes on between quotes
 pub record Sound (q : ℕ) (text : List ℕ) (p : Piece) : Type 0 where

@@ -1,5 +1,5 @@
 -- A reading goes on by a gap or a token, and stops where neither begins.
-use Rattle.std.proofs.Common.{◌≡◌, ◌<◌, ℕ, Bool, true, false, cond, List, [], ◌∷◌, ◌++◌, length, take, drop, refl, sym, ◌∙◌, ap, subst, Result, Ok, Err, IsErrAnd, IfErr}
+use Rattle.std.proofs.Common.{◌≡◌, ◌<◌, ℕ, Bool, true, false, cond, List, [], ◌∷◌, ◌++◌, length, take, drop, refl, sym, ap, subst, Result, Ok, Err, IsErrAnd, IfErr}
 use Rattle.std.proofs.lemmas.List.{append-nil, take-append-drop}
 use Rattle.actx_ast.specs.declared.token.TokenKind.{TokenKind}
 use Rattle.actx_lex.specs.declared.token.Token.{Token}
@@ -7,7 +7,7 @@ use Rattle.actx_lex.specs.declared.lex.LexFault.{LexFault}
 use Rattle.actx_lex.specs.declared.lex.LexFault.TheVariants as fault
 use Rattle.actx_lex.specs.Lexical.{Place, start, is_fresh, passed, behind, token_at, Reads, here, blank, comment, token, begins_number, kinds_of}
 use Rattle.actx_lex.specs.Lexeme.{Begins, NoToken, NoTokenAt, fault_at, Gap, blank as gap_blank, comment as gap_comment, IsGap, NoGap, CutFault}
-use Rattle.actx_lex.proofs.OneCut.{Final, nothing_from}
+use Rattle.actx_lex.proofs.OneCut.{nothing_from}
 
 -- one reading behind another
 join : {p q r : Place} {cs mid left : List ℕ} {ts us : List Token} → Reads p cs ts q mid → Reads q mid us r left → Reads p cs (ts ++ us) r left

@@ -8,7 +8,7 @@ use Rattle.actx_ast.specs.declared.token.Sign.{Sign}
 use Rattle.actx_ast.specs.declared.token.Sign.TheVariants as s
 use Rattle.actx_ast.specs.declared.token.TokenKind.{TokenKind}
 use Rattle.actx_ast.specs.declared.token.TokenKind.TheVariants as t
-use Rattle.actx_ast.specs.Words.{keyword_text, sign_text, is_name_part, IsName, greatest_number, HasForm}
+use Rattle.actx_ast.specs.Words.{keyword_text, sign_text, is_name_part, IsName, greatest_number}
 use Rattle.actx_lex.specs.declared.token.Token.{Token}
 use Rattle.actx_lex.specs.Characters.{AllPass, is_line_end, is_space, is_digit, begins_digit, Inside}
 

@@ -1,5 +1,5 @@
 -- LINES AND COLUMNS of a text's characters, both from 1. Line ends are LF, CR, CR LF, U+2028 and U+2029 (ECMA-262, 12.3).
-use Rattle.std.specs.Prelude.{◌≡◌, ◌≢◌, ℕ, ◌+◌, ◌<◌, Bool, true, false, ◌==◌, ◌&&◌, not, IsTrue, List, [], ◌∷◌, ◌++◌, length, take, slice_index, ◌⊎◌, if◌then◌else◌}
+use Rattle.std.specs.Prelude.{◌≡◌, ℕ, ◌+◌, Bool, ◌==◌, ◌&&◌, not, IsTrue, List, [], ◌∷◌, ◌++◌, length, take, slice_index, ◌⊎◌, if◌then◌else◌}
 use Rattle.actx_lex.specs.Characters.{is_line_end}
 use Rattle.actx_lex.specs.Lexical.{IsText}
 

@@ -1,7 +1,7 @@
-use Rattle.std.proofs.Common.{◌≡◌, ◌<◌, ◌+◌, ℕ, inl, inr, get_or, length, refl, sym, ◌∙◌, ap, subst, arith}
+use Rattle.std.proofs.Common.{◌≡◌, ◌+◌, inl, inr, get_or, length, sym, ◌∙◌, ap, arith}
 use Rattle.std.proofs.lemmas.Bool.{cases_lt}
 use Rattle.std.proofs.lemmas.List.{get_or_read, get_or_past}
-use Rattle.actx_lex.specs.Lexeme.{EndsAt, FirstEnd, no_end, first_end}
+use Rattle.actx_lex.specs.Lexeme.{no_end, first_end}
 use Rattle.actx_lex.proofs.comments.block_len.Goals as goal
 use Rattle.actx_lex.proofs.comments.block_len.Goals.{else-c-eq42-via-then-c-eq42+else-char_at-eq47, else-c-eq42-via-else-c-eq42}
 

@@ -1,4 +1,4 @@
-use Rattle.std.proofs.Common.{◌≡◌, sym, ◌∙◌, ap}
+use Rattle.std.proofs.Common.{sym, ◌∙◌, ap}
 use Rattle.std.proofs.lemmas.List.{take_rest}
 use Rattle.actx_lex.proofs.Classes.{is_blank}
 use Rattle.actx_lex.proofs.Commentary.{blank_gap, line_gap, block_gap, no_gap, other_start, slash_start, open_start}

@@ -1,8 +1,8 @@
-use Rattle.std.proofs.Common.{◌≡◌, ◌<◌, ℕ, List, Err, Result, true, false, length, refl, sym, ◌∙◌, ap, subst, arith}
+use Rattle.std.proofs.Common.{◌≡◌, ℕ, List, Err, Result, true, false, refl, sym, ◌∙◌, ap, subst, arith}
 use Rattle.std.specs.Str.{chars, IsUtf8}
 use Rattle.actx_lex.specs.declared.lex.LexFault.{LexFault}
 use Rattle.actx_lex.specs.declared.lex.LexFault.TheVariants as fault
-use Rattle.actx_lex.specs.Lexical.{size, IsText, NotText, Tokens}
+use Rattle.actx_lex.specs.Lexical.{size, IsText, NotText}
 use Rattle.actx_lex.specs.Lexeme.{CutFault}
 use Rattle.actx_lex.proofs.Encoded.{text_of_chars, size_chars, not_text, tokens_of, stuck_at}
 use Rattle.actx_lex.proofs.OneCut.{one_cut}

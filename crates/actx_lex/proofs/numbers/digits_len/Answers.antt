@@ -1,4 +1,4 @@
-use Rattle.std.proofs.Common.{ℕ, ◌<◌, ap, arith, get_or, sym, ◌∙◌, ◌≡◌, length}
+use Rattle.std.proofs.Common.{◌<◌, ap, arith, sym, ◌∙◌, ◌≡◌, length}
 use Rattle.std.proofs.lemmas.List.{get_or_read}
 use Rattle.std.proofs.lemmas.List.Sums.{prefix_len_is}
 use Rattle.actx_lex.specs.Characters.{is_digit}

@@ -1,4 +1,4 @@
-use Rattle.std.proofs.Common.{◌≡◌, ◌<◌, ◌≤◌, ◌+◌, ◌++◌, ◌∷◌, [], ℕ, List, length, take, chars, eqb, get_or, refl, sym, ◌∙◌, ap, subst, arith, IsUtf8}
+use Rattle.std.proofs.Common.{◌≡◌, ◌≤◌, ◌++◌, ◌∷◌, [], ℕ, List, length, take, chars, eqb, get_or, sym, ◌∙◌, ap, subst, arith, IsUtf8}
 use Rattle.std.proofs.lemmas.Iterator.{YieldsList-from_chars}
 use Rattle.std.proofs.lemmas.Iterator.Consumers.{YieldsList-turn, YieldsList-end}
 use Rattle.std.proofs.lemmas.List.{map-id}
@@ -6,7 +6,7 @@ use Rattle.std.proofs.lemmas.Str.{length-le-encodes, encodes-chars}
 use Rattle.actx_lex.specs.declared.lines.Place.{Place}
 use Rattle.actx_lex.specs.Counting.{settled, next_place}
 use Rattle.actx_lex.specs.Lexical.{IsText}
-use Rattle.actx_lex.specs.Places.{IsPlace, StandsAt}
+use Rattle.actx_lex.specs.Places.{StandsAt}
 use Rattle.actx_lex.proofs.Counted.{Counted, counted_push, counted_most, settled_most}
 use Rattle.actx_lex.proofs.Encoded.{text_of_chars}
 use Rattle.actx_lex.proofs.place.place.Goals as goal

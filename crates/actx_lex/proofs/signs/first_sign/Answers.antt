@@ -1,5 +1,5 @@
-use Rattle.std.proofs.Common.{◌≡◌, ◌≢◌, ℕ, inl, inr, not, true, false, ◌||◌, length, get_or, eqb, Option, Some, None, refl, sym, ◌∙◌, ap, subst}
-use Rattle.std.proofs.lemmas.Bool.{not-true, not-false, or_from, ne_eqb}
+use Rattle.std.proofs.Common.{◌≡◌, ◌≢◌, ℕ, false, length, get_or, eqb, Option, Some, None, sym, ◌∙◌, ap, subst}
+use Rattle.std.proofs.lemmas.Bool.{or_from, ne_eqb}
 use Rattle.actx_ast.specs.declared.token.Sign.{Sign}
 use Rattle.actx_ast.specs.declared.token.TokenKind.TheVariants as t
 use Rattle.actx_lex.specs.Lexeme.{Begins, longest_sign, may_follow}
