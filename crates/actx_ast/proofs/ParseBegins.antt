@@ -97,11 +97,11 @@ params_begin (sp_params b c n a) y = refl
 params_begin (sp_params_comma b c d n a) y = refl
 
 arrow_params_begin : {side : Side} {most : Option ℕ} {xs : List (List ℕ)} {x : List Lexeme} → SpellsArrowParams side most xs x → (y : List Lexeme) → BeginsValue (kinds (x ++ sign g.Arrow false ∷ y))
-arrow_params_begin (sp_bare_param h) y = tt
+arrow_params_begin (sp_bare_param h a) y = tt
 arrow_params_begin (sp_listed_params p) y = params_begin p (sign g.Arrow false ∷ y)
 
 async_begins : {side : Side} {most : Option ℕ} {xs : List (List ℕ)} {x : List Lexeme} → SpellsArrowParams side most xs x → (b : Bool) (y : List Lexeme) → BeginsValue (kinds (keyword k.Async b ∷ (x ++ y)))
-async_begins (sp_bare_param h) b y = tt
+async_begins (sp_bare_param h a) b y = tt
 async_begins (sp_listed_params sp_no_params) b y = tt
 async_begins (sp_listed_params (sp_params c e n a)) b y = tt
 async_begins (sp_listed_params (sp_params_comma c e i n a)) b y = tt

@@ -116,9 +116,9 @@ listed_read {side = side} lim (sp_params_comma {y = y} b c d n a) s r m room l =
 -- behind async
 async_read : {side : Side} {xs : List (List ℕ)} {x : List Lexeme} (lim : Limits) (p : SpellsArrowParams side lim.most xs x) (s : List Frame) (r : List Lexeme) → SameLine x → level_in s ≤ 1
     → runs lim side async_next s (x ++ sign g.Arrow false ∷ r) ≡ runs lim side (arrow_body AsyncArrow xs) s r
-async_read {side = side} lim (sp_bare_param {x = x} {b = false} h) s r i l =
+async_read {side = side} lim (sp_bare_param {x = x} {b = false} h c) s r i l =
     if_holds lim side (takes_whole s && is_binding side x) (arrow_sign AsyncArrow (x ∷ [])) s (sign g.Arrow false ∷ r) (both (takes_whole s) (is_binding side x) (whole_taken s l) (binding_passes h))
-async_read {side = side} lim (sp_bare_param {x = x} {b = true} h) s r i l = absurd (cc)
+async_read {side = side} lim (sp_bare_param {x = x} {b = true} h c) s r i l = absurd (cc)
 async_read {side = side} lim (sp_listed_params (sp_no_params {b = false} {c = c})) s r i l =
     if_holds lim side (takes_whole s) (param_next (arrow_head AsyncArrow) []) s (sign g.CloseParen c ∷ sign g.Arrow false ∷ r) (whole_taken s l)
 async_read {side = side} lim (sp_listed_params (sp_params {y = y} false c n a)) s r i l =
@@ -141,7 +141,7 @@ async_opens lim side s b r h m room =
 
 pub arrow_read : {side : Side} {kind : FunctionKind} {xs : List (List ℕ)} {x : List Lexeme} (lim : Limits) (p : SpellsArrow side lim.most kind xs x) (s : List Frame) (r : List Lexeme) → fits lim (here s) ≡ true → has_room lim s ≡ true → level_in s ≤ 1
     → runs lim side need s (x ++ sign g.Arrow false ∷ r) ≡ runs lim side (arrow_body kind xs) s r
-arrow_read {side = side} lim (sp_arrow_head (sp_bare_param {x = x} {b = b} h)) s r m room l =
+arrow_read {side = side} lim (sp_arrow_head (sp_bare_param {x = x} {b = b} h c)) s r m room l =
     ap (after lim side (sign g.Arrow false ∷ r)) (opens lim side s (t.Name x) m room ∙ name_opens lim side s x (binding_free h))
     ∙ if_holds lim side (takes_whole s) (arrow_body Arrow (x ∷ [])) s r (whole_taken s l)
 arrow_read lim (sp_arrow_head (sp_listed_params p)) s r m room l = listed_read lim p s r m room l

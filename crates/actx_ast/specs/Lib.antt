@@ -1,7 +1,9 @@
-pub mod Lexemes
-pub mod Names
+pub mod Depth
 pub mod Forms
 pub mod Grammar
+pub mod Layout
+pub mod Lexemes
+pub mod Names
 pub mod Spell
 pub mod Tree
 pub mod View
@@ -11,3 +13,6 @@ pub mod ParserOperands
 pub mod ParserFunctions
 pub mod Parser
 pub mod Exact
+pub mod Nodes
+pub mod Static
+pub mod Sides

@@ -1,15 +1,15 @@
 -- The tokens of a tree, with parentheses only where they are needed: where the place binds more tightly, and round what
 -- would begin a statement or an arrow's body as another one. Arrow functions have their parameters in parentheses and a list
 -- of statements as their body; fixed keys are texts.
-use Rattle.std.specs.Prelude.{◌≡◌, ℕ, suc, List, [], ◌∷◌, ◌++◌, Bool, true, false, ◌==◌, ◌||◌, nat_lt, Option, Some, None, codes, if◌then◌else◌}
+use Rattle.std.specs.Prelude.{ℕ, suc, List, [], ◌∷◌, ◌++◌, Bool, true, false, ◌==◌, nat_lt, Option, Some, None, codes, All, if◌then◌else◌}
 use Rattle.std.specs.Cmp.Lexicographic.{pointwise}
 use Rattle.actx_ast.specs.declared.operators.BinaryOp.{BinaryOp}
-use Rattle.actx_ast.specs.declared.operators.Form.{Form}
 use Rattle.actx_ast.specs.declared.operators.Form.TheVariants.{CallWith}
 use Rattle.actx_ast.specs.declared.operators.FunctionKind.{FunctionKind}
 use Rattle.actx_ast.specs.declared.operators.FunctionKind.TheVariants.{Normal, Arrow, Generator, Async, AsyncArrow, AsyncGenerator}
 use Rattle.actx_ast.specs.declared.operators.LogicOp.{LogicOp}
 use Rattle.actx_ast.specs.declared.operators.LogicOp.TheVariants.{And, Or, Coalesce}
+use Rattle.actx_ast.specs.declared.side.Side.{Side}
 use Rattle.actx_ast.specs.declared.token.Keyword.{Keyword}
 use Rattle.actx_ast.specs.declared.token.Keyword.TheVariants as k
 use Rattle.actx_ast.specs.declared.token.Sign.{Sign}
@@ -17,8 +17,11 @@ use Rattle.actx_ast.specs.declared.token.Sign.TheVariants as s
 use Rattle.actx_ast.specs.declared.token.TokenKind.{TokenKind}
 use Rattle.actx_ast.specs.declared.token.TokenKind.TheVariants as t
 use Rattle.actx_ast.specs.Forms.{unary_word, level_of, sign_of, change_of, bump_sign, form_words}
-use Rattle.actx_ast.specs.Tree.{Expr, Num, Text, Truth, Null, Undefined, This, Named, Unary, Binary, Logic, Choice, SetName, SetMember, Change, Bump, Member, Call, Object, Function, Yield, YieldAll, Await, Built, Exprs, none, also, MaybeExpr, no_expr, some_expr, Key, Dot, Index, PropKey, Fixed, Computed, Properties, no_properties, property, Code, code, LetItems, no_lets, let_item, ConstItems, no_consts, const_item, Init, init_nothing, init_let, init_const, init_value, Stmt, Let, Const, Fun, Block, If, While, DoWhile, For, ForOf, ForAwait, Break, Continue, Return, Throw, Try, Value, Empty, Switch, MaybeStmt, no_stmt, some_stmt, Catch, no_catch, catch, Last, no_last, last, Clauses, no_clauses, clause, Stmts, end, next}
-use Rattle.actx_ast.specs.Words.{keyword_text, keywords}
+use Rattle.actx_ast.specs.Grammar.{SpellsStmts}
+use Rattle.actx_ast.specs.Layout.{laid}
+use Rattle.actx_ast.specs.Lexemes.{Lexeme}
+use Rattle.actx_ast.specs.Tree.{Expr, Num, Text, Truth, Null, Undefined, This, Named, Unary, Binary, Logic, Choice, SetName, SetMember, Change, Bump, Member, Call, Object, Function, Yield, YieldAll, Await, Built, Exprs, none, also, MaybeExpr, no_expr, some_expr, Key, Dot, Index, PropKey, Fixed, Computed, Properties, no_properties, property, code, LetItems, no_lets, let_item, ConstItems, no_consts, const_item, Init, init_nothing, init_let, init_const, init_value, Stmt, Let, Const, Fun, Block, If, While, DoWhile, For, ForOf, ForAwait, Break, Continue, Return, Throw, Try, Value, Empty, Switch, no_stmt, some_stmt, Catch, no_catch, catch, Last, no_last, last, Clauses, no_clauses, clause, Stmts, end, next}
+use Rattle.actx_ast.specs.Words.{keyword_text, keywords, HasForm}
 
 -- WORDS
 -- the token that is written so: a reserved word, or else a name
@@ -266,3 +269,12 @@ abbrev mutual
   pub spell_program : Stmts → List TokenKind
   spell_program end = []
   spell_program (next st ss) = spell_stmt st ++ spell_program ss
+
+-- LAWS
+-- a program that some tokens spell is spelled by its own tokens too, within the same depth
+abbrev pub SpelledAgain : Type 0
+SpelledAgain = (side : Side) (most : Option ℕ) (d : ℕ) (p : Stmts) (ts : List Lexeme) → SpellsStmts side most d p ts → SpellsStmts side most d p (laid (spell_program p))
+
+-- and each of them is of its kind's form
+abbrev pub SpelledInForm : Type 0
+SpelledInForm = (side : Side) (most : Option ℕ) (d : ℕ) (p : Stmts) (ts : List Lexeme) → SpellsStmts side most d p ts → All HasForm (spell_program p)

@@ -1,6 +1,7 @@
 //! Names, tokens and trees of programs.
 #![tactic(auto)]
 
+pub mod laws;
 pub mod name;
 pub mod operators;
 pub mod side;

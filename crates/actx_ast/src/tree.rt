@@ -27,11 +27,7 @@ pub enum Expr {
     /// `a += e` and its like
     Change(Name, BinaryOp, Box<Expr>),
     /// `++a`, `a--` and their like
-    Bump {
-        name: Name,
-        up: bool,
-        before: bool,
-    },
+    Bump { name: Name, up: bool, before: bool },
     Member(Box<Expr>, Key),
     Call(Box<Expr>, Vec<Expr>),
     /// An object literal.

@@ -1,13 +1,14 @@
 -- TOKENS OF A TEXT (ECMA-262, 12, restricted): the text is cut into white space, line ends, comments and tokens, each
 -- token the longest that begins at its place.
-use Rattle.std.specs.Prelude.{◌≡◌, ◌≢◌, ℕ, ◌+◌, ◌≤◌, ◌<◌, Bool, true, false, ◌==◌, ◌&&◌, ◌||◌, IsTrue, List, [], ◌∷◌, ◌++◌, length, Contains, ◌⊎◌, codes, flat_map, encode_utf8, if◌then◌else◌}
+use Rattle.std.specs.Prelude.{◌≡◌, ◌≢◌, ℕ, ◌+◌, ◌≤◌, ◌<◌, Bool, true, false, ◌==◌, ◌&&◌, ◌||◌, IsTrue, List, [], ◌∷◌, ◌++◌, length, Contains, ◌⊎◌, codes, take, if◌then◌else◌}
+use Rattle.std.specs.Str.{encode_utf8_all, all_scalars}
 use Rattle.std.specs.Str.Parse.{digits_value}
 use Rattle.actx_ast.specs.declared.token.Keyword.{Keyword}
 use Rattle.actx_ast.specs.declared.token.Sign.{Sign}
 use Rattle.actx_ast.specs.declared.token.Sign.TheVariants as s
 use Rattle.actx_ast.specs.declared.token.TokenKind.{TokenKind}
 use Rattle.actx_ast.specs.declared.token.TokenKind.TheVariants as t
-use Rattle.actx_ast.specs.Words.{keyword_text, sign_text, is_name_part, IsName, greatest_number, HasForm}
+use Rattle.actx_ast.specs.Words.{keyword_text, sign_text, is_name_part, IsName, greatest_number}
 use Rattle.actx_lex.specs.declared.token.Token.{Token}
 use Rattle.actx_lex.specs.Characters.{AllPass, is_line_end, is_space, is_digit, begins_digit, Inside}
 
@@ -107,7 +108,7 @@ pub data IsComment : List ℕ → List ℕ → Type 0 where
 -- PLACES
 -- how many bytes some characters take in UTF-8
 abbrev pub size : List ℕ → ℕ
-size cs = length (flat_map encode_utf8 cs)
+size cs = length (encode_utf8_all cs)
 
 -- where the reading of a text stands: its byte place, whether a line end stands between it and the last token, and
 -- whether it is on the first token's line with no token before it
@@ -155,9 +156,18 @@ begins_number [] = false
 begins_number (c ∷ cs) = is_digit c || ((c == 46) && begins_digit cs)
 
 -- TEXTS
--- the text is the characters in UTF-8
-abbrev pub IsText : List ℕ → List ℕ → Type 0
-IsText text cs = text ≡ flat_map encode_utf8 cs
+-- the text is the characters in UTF-8, each of which is a Unicode scalar value
+pub record IsText (text cs : List ℕ) : Type 0 where
+  pub scalars : all_scalars cs ≡ true
+  pub encoded : text ≡ encode_utf8_all cs
+
+-- the text is no characters in UTF-8, and its first n bytes are the most that are
+pub record NotText (text : List ℕ) (n : ℕ) : Type 0 where
+  pub none : (cs : List ℕ) → IsText text cs → ⊥
+  pub within : n ≤ length text
+  pub chars : List ℕ
+  pub front : IsText (take n text) chars
+  pub longest : (m : ℕ) (cs : List ℕ) → n < m → m ≤ length text → IsText (take m text) cs → ⊥
 
 -- the tokens of a text
 pub record Tokens (text : List ℕ) (ts : List Token) : Type 0 where
@@ -189,3 +199,6 @@ OneCut = (text : List ℕ) (ts us : List Token) → Tokens text ts → Tokens te
 
 abbrev pub NotStuck : Type 0
 NotStuck = (text : List ℕ) (ts : List Token) (number : Bool) (n : ℕ) → Tokens text ts → Stuck text number n → ⊥
+
+abbrev pub OneStop : Type 0
+OneStop = (text : List ℕ) (number other : Bool) (n m : ℕ) → Stuck text number n → Stuck text other m → (number ≡ other) × (n ≡ m)

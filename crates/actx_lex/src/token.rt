@@ -2,12 +2,7 @@
 
 use actx_ast::token::TokenKind;
 
-/// Which texts are read: of users, or of the compiler.
-#[derive(Clone, Copy, Debug, Drop, PartialEq, Eq)]
-pub enum Side {
-    Source,
-    Plain,
-}
+pub use actx_ast::side::Side;
 
 /// A token of a text.
 #[derive(Debug, Drop)]
