@@ -22,6 +22,9 @@ pub mod ParseStatements
 pub mod ParseLoops
 pub mod ParseComplete
 pub mod ParseAll
+pub mod ParseStops
+pub mod ParseLooser
+pub mod ParseLooserModes
 pub mod SpellDeeper
 pub mod SpellLaid
 pub mod SpellPlaces

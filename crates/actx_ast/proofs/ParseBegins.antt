@@ -139,10 +139,6 @@ words_begin Plain f.Leave h y i = tt
 words_begin Source _ h y i = absurd h
 words_begin Plain _ h y i = absurd h
 
-unary_begins : (op : UnaryOp) → begins_operand (unary_word op) ≡ true
-unary_begins u.Not = refl
-unary_begins _ = refl
-
 unary_value : (op : UnaryOp) (x : List TokenKind) → BeginsValue (unary_word op ∷ x)
 unary_value u.Not x = refl
 unary_value _ x = refl

@@ -148,14 +148,3 @@ arrow_read lim (sp_arrow_head (sp_listed_params p)) s r m room l = listed_read l
 arrow_read {side = side} lim (sp_async_arrow_head {x = x} {b = b} h p i) s r m room l =
     async_opens lim side s b (x ++ sign g.Arrow false ∷ r) h m room
     ∙ async_read lim p s r i l
-
--- FUNCTIONS
--- a function's name or its parameters
-name_read : (lim : Limits) (side : Side) (role : Role) (kind : FunctionKind) (x : List ℕ) (b : Bool) (s : List Frame) (r : List Lexeme) → IsBinding side x
-    → runs lim side (name_next role kind) s (lexeme (t.Name x) b ∷ r) ≡ runs lim side (params_open (function_head role kind (Some x))) s r
-name_read lim side role kind x b s r h = if_holds lim side (is_binding side x) (params_open (function_head role kind (Some x))) s r (binding_passes h)
-
--- behind the word function
-normal_read : (lim : Limits) (side : Side) (role : Role) (x : List ℕ) (b : Bool) (s : List Frame) (r : List Lexeme) → IsBinding side x
-    → runs lim side (function_next role) s (lexeme (t.Name x) b ∷ r) ≡ runs lim side (params_open (function_head role Normal (Some x))) s r
-normal_read lim side role x b s r h = if_holds lim side (is_binding side x) (params_open (function_head role Normal (Some x))) s r (binding_passes h)
