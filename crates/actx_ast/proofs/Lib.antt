@@ -25,6 +25,7 @@ pub mod ParseAll
 pub mod ParseStops
 pub mod ParseLooser
 pub mod ParseLooserModes
+pub mod ParseReasons
 pub mod SpellDeeper
 pub mod SpellLaid
 pub mod SpellPlaces
