@@ -1,5 +1,5 @@
 -- What is spelled is parsed: programs.
-use Rattle.std.proofs.Common.{◌≡◌, ℕ, ◌≤◌, ◌+◌, List, [], ◌∷◌, Option, Some, None, refl, sym, ◌∙◌, ap, arith}
+use Rattle.std.proofs.Common.{◌≡◌, ℕ, List, [], ◌∷◌, Option, Some, refl, sym, ◌∙◌, ap, arith}
 use Rattle.std.proofs.lemmas.List.{append-nil}
 use Rattle.actx_ast.specs.declared.side.Side.{Side}
 use Rattle.actx_ast.specs.declared.side.Side.TheVariants.{Source, Plain}
@@ -7,11 +7,10 @@ use Rattle.actx_ast.specs.Exact.{ParsesWhatIsSpelled}
 use Rattle.actx_ast.specs.Grammar.{deepest, most, SpellsStmts, IsSpelled, OneTree}
 use Rattle.actx_ast.specs.Lexemes.{Lexeme}
 use Rattle.actx_ast.specs.Parser.{limits, parsed}
-use Rattle.actx_ast.specs.ParserState.{start, program, in_list, levels}
+use Rattle.actx_ast.specs.ParserState.{start, program, in_list}
 use Rattle.actx_ast.specs.Tree.{Stmts, end}
 use Rattle.actx_ast.proofs.ParseComplete.{Free, bounds, complete_stmts}
 use Rattle.actx_ast.proofs.ParseNames.{le_true}
-use Rattle.actx_ast.proofs.ParseReads.{owner_levels}
 use Rattle.actx_ast.proofs.ParseRuns.{runs, counted, Fit, fit_less}
 
 -- whatever the limits are

@@ -1,6 +1,6 @@
 -- What is read within limits is read alike within looser ones: operands.
-use Rattle.std.proofs.Common.{◌≡◌, ℕ, suc, ◌+◌, ◌≤◌, List, [], ◌∷◌, ◌++◌, length, Bool, true, false, ◌&&◌, ◌||◌, Option, Some, None, cond, refl, sym, ◌∙◌, ap, arith}
-use Rattle.std.specs.Prelude.{nat_eq, codes}
+use Rattle.std.proofs.Common.{◌≡◌, ℕ, suc, List, [], ◌∷◌, Bool, true, false, ◌&&◌, ◌||◌, cond, refl, ◌∙◌, ap}
+use Rattle.std.specs.Prelude.{nat_eq}
 use Rattle.actx_ast.specs.declared.operators.BinaryOp.{BinaryOp}
 use Rattle.actx_ast.specs.declared.operators.BinaryOp.TheVariants as o
 use Rattle.actx_ast.specs.declared.operators.Form.{Form}
@@ -17,7 +17,7 @@ use Rattle.actx_ast.specs.declared.token.TokenKind.TheVariants as t
 use Rattle.actx_ast.specs.Forms.{form_words}
 use Rattle.actx_ast.specs.Grammar.{count}
 use Rattle.actx_ast.specs.ParserOperands.{is_built_in, is_source, least_parts, most_parts, forms_of, begins_with, goes_on, takes_whole, has_room, fits_below, prefix, words_go, key_operand, operand, begin_operand, at_need, binary, logic, unmixed, tighter, at_logic, choice, at_operator, at_have, at_member}
-use Rattle.actx_ast.specs.ParserState.{Limits, at_most, fits, takes_more, Frame, in_unary, in_await, in_binary, in_logic, in_choice, in_call, in_form, in_index, in_set, Mode, need, have_name, opened, member_name, words_next, Move, refuse, go, go_if, here, Settled, settled, settle}
+use Rattle.actx_ast.specs.ParserState.{Limits, at_most, fits, takes_more, Frame, in_unary, in_await, in_binary, in_logic, in_choice, in_call, in_form, in_index, Mode, need, have_name, opened, member_name, words_next, Move, refuse, go, go_if, here, Settled, settled, settle}
 use Rattle.actx_ast.specs.Tree.{Expr, Member, none, Key}
 
 pub record Looser (lim lam : Limits) : Type 0 where
@@ -68,8 +68,8 @@ goes_kept {lim = lim} {lam = lam} l depth ws (form ∷ forms) h =
     let b : Bool = begins_with (form_words form) ws in
     let z : Bool = nat_eq (least_parts form) 0 in
     or_holds (b && (z || fits lim (suc depth))) (goes_on lim depth ws forms) (b && (z || fits lam (suc depth))) (goes_on lam depth ws forms)
-      (and_holds b (z || fits lim (suc depth)) b (z || fits lam (suc depth)) (holds_same b) (or_holds z (fits lim (suc depth)) z (fits lam (suc depth)) (holds_same z) (l.deeper (suc depth))))
-      (goes_kept l depth ws forms) h
+    (and_holds b (z || fits lim (suc depth)) b (z || fits lam (suc depth)) (holds_same b) (or_holds z (fits lim (suc depth)) z (fits lam (suc depth)) (holds_same z) (l.deeper (suc depth))))
+    (goes_kept l depth ws forms) h
 
 pub words_kept : {lim lam : Limits} (l : Looser lim lam) (side : Side) (ws : List TokenKind) (s : List Frame) → Kept (words_go lim side ws s) (words_go lam side ws s)
 words_kept {lim = lim} {lam = lam} l side ws s = kept_if (goes_on lim (here s) ws (forms_of side)) (goes_on lam (here s) ws (forms_of side)) (goes_kept l (here s) ws (forms_of side)) (words_next ws) s

@@ -1,8 +1,8 @@
 -- What is read within limits is read alike within looser ones: names, functions, literals and statements.
-use Rattle.std.proofs.Common.{◌≡◌, ℕ, suc, max, ◌+◌, ◌≤◌, List, [], ◌∷◌, ◌++◌, length, Bool, true, false, ◌&&◌, ◌||◌, Option, Some, None, cond, refl, sym, ◌∙◌, ap, arith}
+use Rattle.std.proofs.Common.{ℕ, suc, max, List, [], ◌∷◌, ◌++◌, length, Bool, true, false, ◌&&◌, None, cond}
 use Rattle.actx_ast.specs.declared.operators.BinaryOp.TheVariants as o
 use Rattle.actx_ast.specs.declared.operators.FunctionKind.{FunctionKind}
-use Rattle.actx_ast.specs.declared.operators.FunctionKind.TheVariants.{Arrow, Generator}
+use Rattle.actx_ast.specs.declared.operators.FunctionKind.TheVariants.{Generator}
 use Rattle.actx_ast.specs.declared.side.Side.{Side}
 use Rattle.actx_ast.specs.declared.side.Side.TheVariants.{Source, Plain}
 use Rattle.actx_ast.specs.declared.token.Keyword.{Keyword}
@@ -12,9 +12,9 @@ use Rattle.actx_ast.specs.declared.token.TokenKind.{TokenKind}
 use Rattle.actx_ast.specs.declared.token.TokenKind.TheVariants as t
 use Rattle.actx_ast.specs.Parser.{move, with_parts, without_parts, statement_keyword, list_keyword, at_statement, at_start, at_body_start, Standing, standing, settle_stmt, behind_standing, behind_stmt, with_stmt, at_let_behind, at_return, at_throw, at_for, at_for_test, at_for_update, at_finally}
 use Rattle.actx_ast.specs.ParserFunctions.{assign, at_name, in_parens, at_opened, at_first, at_closed, at_param, at_arrow_body, at_async, at_async_start, yield_operand, begins_operand, at_yield, at_fixed, at_key_word, at_key, at_words, open_list}
-use Rattle.actx_ast.specs.ParserOperands.{is_binding, is_source, takes_whole, fits_below, named, at_need, at_whole, at_have, words_go}
-use Rattle.actx_ast.specs.ParserState.{Limits, fits, takes_more, Head, ItemsOf, of_statement, ListOwner, block, Frame, in_paren, in_set_name, in_change, in_arrow, in_yield, in_yield_all, in_computed, in_value, in_let, in_return, in_throw, in_for_init, in_for_test, in_for_update, do_of, in_list, Mode, start, body_start, have_stmt, need, have, have_member, have_name, have_bump, whole, opened, first_name, closed_name, bump_name, yield_next, async_next, async_start, function_next, name_next, params_open, param_next, param_behind, arrow_sign, arrow_body, body_open, key_next, key_behind, key_name, key_async, key_end, method_key, method_open, member_name, call_open, words_next, let_name, let_behind, const_name, const_behind, jump_end, return_next, throw_next, if_open, while_open, do_while, do_end, for_open, for_next, for_test, for_update, try_open, catch_next, catch_open, catch_name, catch_close, catch_block, finally_next, finally_open, switch_open, switch_brace, clause_next, case_number, case_colon, declaration, Move, refuse, go, go_if, here}
-use Rattle.actx_ast.specs.Tree.{Expr, Properties, Fixed, LetItems, no_lets, no_consts, Init, MaybeExpr, Stmt, Break, Continue, Empty, Try, no_last, Stmts, Catch, Yield, no_expr}
+use Rattle.actx_ast.specs.ParserOperands.{is_binding, is_source, takes_whole, fits_below, named, at_need, at_whole, at_have}
+use Rattle.actx_ast.specs.ParserState.{Limits, fits, takes_more, Head, ItemsOf, of_statement, block, Frame, in_paren, in_set_name, in_change, in_arrow, in_yield, in_yield_all, in_computed, in_value, in_let, in_return, in_throw, in_for_init, in_for_test, in_for_update, do_of, in_list, Mode, start, body_start, have_stmt, need, have, have_member, have_name, have_bump, opened, first_name, closed_name, yield_next, async_start, function_next, param_next, param_behind, arrow_body, key_next, key_behind, key_name, key_async, method_key, words_next, let_name, let_behind, const_name, jump_end, return_next, throw_next, if_open, while_open, for_open, for_next, for_test, for_update, try_open, finally_next, switch_open, declaration, Move, refuse, go, here}
+use Rattle.actx_ast.specs.Tree.{Properties, Fixed, LetItems, no_lets, no_consts, Init, MaybeExpr, Stmt, Break, Continue, Empty, Try, no_last, Stmts, Catch, Yield, no_expr}
 use Rattle.actx_ast.specs.Words.{keyword_text, word_units}
 use Rattle.actx_ast.proofs.ParseLooser.{Looser, Kept, Holds, same, kept_if, kept_when, kept_either, and_holds, holds_same, words_kept, need_kept, operator_kept, have_kept, member_kept}
 

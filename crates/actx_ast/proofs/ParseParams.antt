@@ -1,7 +1,7 @@
 -- Lists of parameters, and what stands before arrows and functions.
-use Rattle.std.proofs.Common.{◌≡◌, ℕ, suc, ◌≤◌, List, [], ◌∷◌, ◌++◌, length, Bool, true, false, ◌&&◌, ◌||◌, Some, cond, refl, ◌∙◌, ap, arith, append_assoc}
+use Rattle.std.proofs.Common.{◌≡◌, ℕ, suc, ◌≤◌, List, [], ◌∷◌, ◌++◌, length, Bool, true, false, ◌&&◌, ◌||◌, cond, refl, ◌∙◌, ap, arith, append_assoc}
 use Rattle.actx_ast.specs.declared.operators.FunctionKind.{FunctionKind}
-use Rattle.actx_ast.specs.declared.operators.FunctionKind.TheVariants.{Normal, Arrow, AsyncArrow}
+use Rattle.actx_ast.specs.declared.operators.FunctionKind.TheVariants.{Arrow, AsyncArrow}
 use Rattle.actx_ast.specs.declared.side.Side.{Side}
 use Rattle.actx_ast.specs.declared.side.Side.TheVariants.{Source}
 use Rattle.actx_ast.specs.declared.token.Keyword.TheVariants as k
@@ -13,7 +13,7 @@ use Rattle.actx_ast.specs.Names.{IsBinding}
 use Rattle.actx_ast.specs.Parser.{move}
 use Rattle.actx_ast.specs.ParserFunctions.{close_params}
 use Rattle.actx_ast.specs.ParserOperands.{is_binding, is_source, takes_whole, has_room, fits_below, begin_operand}
-use Rattle.actx_ast.specs.ParserState.{Limits, fits, takes_more, Role, Head, arrow_head, function_head, Frame, in_paren, Mode, need, opened, first_name, async_next, function_next, name_next, params_open, param_next, param_behind, arrow_sign, arrow_body, go, here}
+use Rattle.actx_ast.specs.ParserState.{Limits, fits, takes_more, Head, arrow_head, Frame, in_paren, Mode, need, opened, first_name, async_next, param_next, param_behind, arrow_sign, arrow_body, go, here}
 use Rattle.actx_ast.proofs.ParseCover.{name_opens}
 use Rattle.actx_ast.proofs.ParseLevels.{level_in}
 use Rattle.actx_ast.proofs.ParseNames.{binding_free, binding_passes, source_passes, allowed, allows_less, both}

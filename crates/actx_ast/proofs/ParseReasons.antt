@@ -1,11 +1,11 @@
 -- Where the parser refuses for a reason, no program goes on within the limits that the reason puts aside.
-use Rattle.std.proofs.Common.{◌≡◌, ℕ, zero, suc, ◌+◌, ◌≤◌, ◌<◌, List, [], ◌∷◌, ◌++◌, length, Bool, true, false, Option, Some, None, cond, refl, sym, ◌∙◌, ap, arith}
+use Rattle.std.proofs.Common.{◌≡◌, ℕ, zero, suc, ◌+◌, ◌≤◌, ◌<◌, List, [], ◌∷◌, ◌++◌, length, Bool, true, false, Some, None, cond, refl, sym, ◌∙◌, ap, arith}
 use Rattle.std.specs.Prelude.{take}
 use Rattle.actx_ast.specs.declared.side.Side.{Side}
 use Rattle.actx_ast.specs.Exact.{Begins, UpTo}
 use Rattle.actx_ast.specs.Grammar.{deepest}
 use Rattle.actx_ast.specs.Lexemes.{Lexeme}
-use Rattle.actx_ast.specs.Parser.{step, Reason, unexpected, too_deep, too_many, reason, Outcome, refused, carry, limits, unlisted, unlimited, is_refused, run, parse}
+use Rattle.actx_ast.specs.Parser.{step, Reason, unexpected, too_deep, too_many, reason, refused, carry, limits, unlisted, unlimited, is_refused, run, parse}
 use Rattle.actx_ast.specs.ParserState.{Limits, Frame, program, in_list, Mode, start, Move, refuse, go}
 use Rattle.actx_ast.specs.Tree.{Stmts, end}
 use Rattle.actx_ast.proofs.ParseAll.{reads_all}
@@ -67,10 +67,10 @@ loose_run lam side l k m s (t ∷ ts) i (suc j) why rest p q h e b w =
 pub unexpected_stops : (side : Side) (ts : List Lexeme) (i : ℕ) → parse side ts ≡ refused i unexpected → (depth : ℕ) → UpTo (Begins side None depth) i ts → ⊥
 unexpected_stops side ts i h depth w =
     loose_run unlimited side (unlimited_looser side) 0 start (in_list program end 0 ∷ []) ts i i unexpected w.1.rest w.1.program (unexpected_refused side) h (omega arith) w.0
-      (reads_all side None None depth w.1.program (take (suc i) ts ++ w.1.rest) (λ e. refl) (λ n e. refl) w.1.spelled)
+    (reads_all side None None depth w.1.program (take (suc i) ts ++ w.1.rest) (λ e. refl) (λ n e. refl) w.1.spelled)
 
 -- none goes on within the depth, whatever its lists are
 pub deep_stops : (side : Side) (ts : List Lexeme) (i : ℕ) → parse side ts ≡ refused i too_deep → UpTo (Begins side None (deepest side)) i ts → ⊥
 deep_stops side ts i h w =
     loose_run (unlisted side) side (unlisted_looser side) 0 start (in_list program end 0 ∷ []) ts i i too_deep w.1.rest w.1.program (deep_refused side) h (omega arith) w.0
-      (reads_all side (Some (deepest side)) None (deepest side) w.1.program (take (suc i) ts ++ w.1.rest) (λ e. refl) (λ n e. le_true n (deepest side) e) w.1.spelled)
+    (reads_all side (Some (deepest side)) None (deepest side) w.1.program (take (suc i) ts ++ w.1.rest) (λ e. refl) (λ n e. le_true n (deepest side) e) w.1.spelled)

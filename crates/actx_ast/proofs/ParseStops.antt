@@ -1,15 +1,15 @@
 -- Where the parser refuses, no program within the limits goes on.
-use Rattle.std.proofs.Common.{◌≡◌, ℕ, zero, suc, ◌+◌, ◌≤◌, ◌<◌, List, [], ◌∷◌, ◌++◌, length, Option, Some, None, refl, sym, ◌∙◌, ap, subst, arith}
+use Rattle.std.proofs.Common.{◌≡◌, ℕ, zero, suc, ◌+◌, ◌≤◌, ◌<◌, List, [], ◌∷◌, ◌++◌, length, Option, Some, None, sym, ◌∙◌, arith}
 use Rattle.std.specs.Prelude.{take}
 use Rattle.actx_ast.specs.declared.side.Side.{Side}
 use Rattle.actx_ast.specs.Exact.{BeginsWithin, UpTo}
 use Rattle.actx_ast.specs.Grammar.{IsSpelled}
 use Rattle.actx_ast.specs.Lexemes.{Lexeme}
-use Rattle.actx_ast.specs.Parser.{step, finish, Reason, reason, Outcome, parsed, refused, finished, carry, limits, run, parse}
+use Rattle.actx_ast.specs.Parser.{step, finish, Reason, reason, parsed, refused, finished, carry, limits, run, parse}
 use Rattle.actx_ast.specs.ParserState.{Frame, program, in_list, Mode, start, Move, refuse, go}
 use Rattle.actx_ast.specs.Tree.{Stmts, end}
 use Rattle.actx_ast.proofs.ParseAll.{reads_within, parses}
-use Rattle.actx_ast.proofs.ParseRuns.{runs, led, after}
+use Rattle.actx_ast.proofs.ParseRuns.{runs, after}
 
 -- the number of the token that is refused is no less than that of the first
 finished_at : (k i : ℕ) (why : Reason) (o : Option Stmts) → finished k o ≡ refused i why → k ≤ i
