@@ -20,3 +20,4 @@ pub mod SideReads
 pub mod SideLists
 pub mod SideSpells
 pub mod SideLaws
+pub mod SideNames
