@@ -1,9 +1,12 @@
 //! Names, tokens and trees of programs.
 #![tactic(auto)]
 
+mod forms;
 pub mod laws;
 pub mod name;
+mod names;
 pub mod operators;
+mod reserved;
 pub mod side;
 pub mod token;
 pub mod tree;
