@@ -1,3 +1,4 @@
+pub mod Apart
 pub mod Lexemes
 pub mod Names
 pub mod Forms
