@@ -1,6 +1,6 @@
 -- A part more, and one less.
-use Rattle.std.proofs.Common.{◌≡◌, ℕ, ◌+◌, List, [], ◌∷◌, ◌++◌, map, arith, subst, sym, Option, Some, None, All}
-use Rattle.std.specs.Prelude.{IfSome, ◌≤◌, ◌<◌, max, option_to_list}
+use Rattle.std.proofs.Common.{◌≡◌, ℕ, ◌+◌, List, [], ◌∷◌, ◌++◌, map, arith, subst, sym, Option, All}
+use Rattle.std.specs.Prelude.{IfSome, ◌<◌, option_to_list}
 use Rattle.std.proofs.lemmas.List.Elements.{All-nil, All-push, All-pop}
 use Rattle.actx_ast.specs.Apart.{AllBelow, IsBelow, listed, weigh, weight}
 use Rattle.actx_ast.specs.declared.tree.drop.Part.{Part}

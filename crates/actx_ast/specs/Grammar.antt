@@ -1,7 +1,7 @@
 -- THE GRAMMAR of both sides: which tokens spell which tree (ECMA-262, 13 to 15, restricted). The level says how tightly the
 -- place binds, the depth how many levels the tree and its parentheses may have; a list of parameters or arguments may be
 -- bounded.
-use Rattle.std.specs.Prelude.{◌≡◌, ◌≢◌, ℕ, suc, ◌≤◌, Bool, true, false, List, [], ◌∷◌, ◌++◌, length, Option, Some, None, codes}
+use Rattle.std.specs.Prelude.{◌≡◌, ℕ, suc, ◌≤◌, Bool, true, false, List, [], ◌∷◌, ◌++◌, length, Option, Some, None, codes}
 use Rattle.actx_ast.specs.declared.operators.BinaryOp.{BinaryOp}
 use Rattle.actx_ast.specs.declared.operators.Form.{Form}
 use Rattle.actx_ast.specs.declared.operators.Form.TheVariants.{CallWith}
@@ -18,8 +18,8 @@ use Rattle.actx_ast.specs.declared.token.TokenKind.{TokenKind}
 use Rattle.actx_ast.specs.declared.token.TokenKind.TheVariants as t
 use Rattle.actx_ast.specs.Forms.{unary_word, level_of, sign_of, change_of, bump_sign, form_words, HasWords, Suits}
 use Rattle.actx_ast.specs.Lexemes.{Lexeme, sign, keyword, lexeme, kinds, SameLine}
-use Rattle.actx_ast.specs.Names.{IsBinding, IsReference, IsOwnName, word_of, IsKey, key_of}
-use Rattle.actx_ast.specs.Tree.{Expr, Num, Text, Truth, Null, Undefined, This, Named, Unary, Binary, Logic, Choice, SetName, SetMember, Change, Bump, Member, Call, Object, Function, Yield, YieldAll, Await, Built, Exprs, none, also, MaybeExpr, no_expr, some_expr, Key, Dot, Index, PropKey, Fixed, Computed, Properties, no_properties, property, Code, code, LetItems, no_lets, let_item, ConstItems, no_consts, const_item, Init, init_nothing, init_let, init_const, init_value, Stmt, Let, Const, Fun, Block, If, While, DoWhile, For, ForOf, ForAwait, Break, Continue, Return, Throw, Try, Value, Empty, Switch, MaybeStmt, no_stmt, some_stmt, Catch, no_catch, catch, Last, no_last, last, Clauses, no_clauses, clause, Stmts, end, next}
+use Rattle.actx_ast.specs.Names.{IsBinding, IsReference, word_of, IsKey, key_of}
+use Rattle.actx_ast.specs.Tree.{Expr, Num, Text, Truth, Null, Undefined, This, Named, Unary, Binary, Logic, Choice, SetName, SetMember, Change, Bump, Member, Call, Object, Function, Yield, YieldAll, Await, Built, Exprs, none, also, MaybeExpr, no_expr, some_expr, Key, Dot, Index, PropKey, Fixed, Computed, Properties, no_properties, property, Code, code, LetItems, no_lets, let_item, ConstItems, no_consts, const_item, Init, init_nothing, init_let, init_const, init_value, Stmt, Let, Const, Fun, Block, If, While, DoWhile, For, ForOf, ForAwait, Break, Continue, Return, Throw, Try, Value, Empty, Switch, no_stmt, some_stmt, Catch, no_catch, catch, no_last, last, Clauses, no_clauses, clause, Stmts, end, next}
 use Rattle.actx_ast.specs.Words.{HasForm, greatest_number}
 
 -- LIMITS

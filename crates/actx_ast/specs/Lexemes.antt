@@ -1,5 +1,5 @@
 -- Tokens as the grammar sees them: their kinds, and where a line ends before them.
-use Rattle.std.specs.Prelude.{◌≡◌, Bool, true, false, List, [], ◌∷◌, map}
+use Rattle.std.specs.Prelude.{◌≡◌, Bool, false, List, [], ◌∷◌, map}
 use Rattle.actx_ast.specs.declared.token.Keyword.{Keyword}
 use Rattle.actx_ast.specs.declared.token.Sign.{Sign}
 use Rattle.actx_ast.specs.declared.token.TokenKind.{TokenKind}

@@ -1,10 +1,10 @@
 -- Names in the grammar: of built-in things, of bindings, of references and of properties.
-use Rattle.std.specs.Prelude.{◌≡◌, ◌≢◌, ℕ, List, [], ◌∷◌, Option, Some, None, codes, Contains}
+use Rattle.std.specs.Prelude.{◌≢◌, ℕ, List, [], ◌∷◌, Option, Some, None, codes, Contains}
 use Rattle.actx_ast.specs.declared.side.Side.{Side}
 use Rattle.actx_ast.specs.declared.side.Side.TheVariants.{Source, Plain}
 use Rattle.actx_ast.specs.declared.token.TokenKind.{TokenKind}
 use Rattle.actx_ast.specs.declared.token.TokenKind.TheVariants as t
-use Rattle.actx_ast.specs.Words.{IsName, HasForm, keyword_text, word_units}
+use Rattle.actx_ast.specs.Words.{IsName, keyword_text, word_units}
 
 -- the names of built-in things, which are neither bindings nor references
 abbrev pub built_in : Side → List (List ℕ)

@@ -29,11 +29,7 @@ pub enum Expr {
     /// `a += e` and its like
     Change(Name, BinaryOp, Box<Expr>),
     /// `++a`, `a--` and their like
-    Bump {
-        name: Name,
-        up: bool,
-        before: bool,
-    },
+    Bump { name: Name, up: bool, before: bool },
     Member(Box<Expr>, Key),
     Call(Box<Expr>, Vec<Expr>),
     /// An object literal.
@@ -206,7 +202,11 @@ impl Drop for Expr {
                 Expr::SetName(_, _) => {}
                 Expr::SetMember(_, _, _) => {}
                 Expr::Change(_, _, _) => {}
-                Expr::Bump { name: _, up: _, before: _ } => {}
+                Expr::Bump {
+                    name: _,
+                    up: _,
+                    before: _,
+                } => {}
                 Expr::Member(_, _) => {}
                 Expr::Call(_, _) => {}
                 Expr::Object(_) => {}
@@ -253,13 +253,27 @@ impl Drop for Stmt {
                 Stmt::While(_, _) => {}
                 Stmt::DoWhile(_, _) => {}
                 Stmt::For(_, _, _, _) => {}
-                Stmt::ForOf { constant: _, name: _, over: _, body: _ } => {}
-                Stmt::ForAwait { constant: _, name: _, over: _, body: _ } => {}
+                Stmt::ForOf {
+                    constant: _,
+                    name: _,
+                    over: _,
+                    body: _,
+                } => {}
+                Stmt::ForAwait {
+                    constant: _,
+                    name: _,
+                    over: _,
+                    body: _,
+                } => {}
                 Stmt::Break => {}
                 Stmt::Continue => {}
                 Stmt::Return(_) => {}
                 Stmt::Throw(_) => {}
-                Stmt::Try { block: _, catcher: _, last: _ } => {}
+                Stmt::Try {
+                    block: _,
+                    catcher: _,
+                    last: _,
+                } => {}
                 Stmt::Value(_) => {}
                 Stmt::Empty => {}
                 Stmt::Switch(_, _) => {}

@@ -1,4 +1,3 @@
-use Rattle.std.proofs.Common.{ℕ}
 use Rattle.actx_ast.specs.Apart.{AllBelow, weigh}
 use Rattle.actx_ast.specs.declared.tree.Expr.{size-Expr}
 use Rattle.actx_ast.specs.declared.tree.Stmt.{size-Stmt}

@@ -15,7 +15,9 @@ ghost use Rattle.actx_ast.specs.declared.tree.Property.{size-Property};
 ghost use Rattle.actx_ast.specs.declared.tree.Stmt.{size-Stmt};
 ghost use Rattle.actx_ast.specs.declared.tree.drop.Part.TheVariants.{Clauses, Consts, Exprs, Lets, Properties, Stmts};
 
-use super::{Catcher, Clause, ConstItem, Expr, ForInit, Function, Key, LetItem, PropKey, Property, Stmt};
+use super::{
+    Catcher, Clause, ConstItem, Expr, ForInit, Function, Key, LetItem, PropKey, Property, Stmt,
+};
 use std::alloc::Global;
 
 /// What owns a part of a tree in memory of its own. It has no drop, so that no drop of a tree is hidden in it.
@@ -119,7 +121,11 @@ impl Expr {
                 key.open(parts);
             }
             Expr::Change(_, _, value) => put(parts, Part::Expr(value)),
-            Expr::Bump { name: _, up: _, before: _ } => {}
+            Expr::Bump {
+                name: _,
+                up: _,
+                before: _,
+            } => {}
             Expr::Member(base, key) => {
                 put(parts, Part::Expr(base));
                 key.open(parts);
@@ -288,13 +294,27 @@ impl Stmt {
                 open_maybe(update, parts);
                 put(parts, Part::Stmt(body));
             }
-            Stmt::ForOf { constant: _, name: _, over, body } => open_loop(over, body, parts),
-            Stmt::ForAwait { constant: _, name: _, over, body } => open_loop(over, body, parts),
+            Stmt::ForOf {
+                constant: _,
+                name: _,
+                over,
+                body,
+            } => open_loop(over, body, parts),
+            Stmt::ForAwait {
+                constant: _,
+                name: _,
+                over,
+                body,
+            } => open_loop(over, body, parts),
             Stmt::Break => {}
             Stmt::Continue => {}
             Stmt::Return(value) => open_maybe(value, parts),
             Stmt::Throw(value) => value.open(parts),
-            Stmt::Try { block, catcher, last } => {
+            Stmt::Try {
+                block,
+                catcher,
+                last,
+            } => {
                 put(parts, Part::Stmts(block));
                 open_catcher(catcher, parts);
                 open_last(last, parts);
