@@ -4,6 +4,8 @@
 pub mod name;
 pub mod operators;
 pub mod side;
+#[cfg(test)]
+mod tests;
 pub mod token;
 pub mod tree;
 pub mod words;
