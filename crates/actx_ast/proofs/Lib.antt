@@ -49,3 +49,5 @@ pub mod SideLists
 pub mod SideSpells
 pub mod SideLaws
 pub mod SideNames
+pub mod Deep
+pub mod Parts

@@ -8,6 +8,8 @@ mod names;
 pub mod operators;
 mod reserved;
 pub mod side;
+#[cfg(test)]
+mod tests;
 pub mod token;
 pub mod tree;
 pub mod words;
