@@ -44,3 +44,10 @@ pub mod SpellWords
 pub mod SpellForms
 pub mod SpellLaws
 pub mod SpellExamples
+pub mod SideReads
+pub mod SideLists
+pub mod SideSpells
+pub mod SideLaws
+pub mod SideNames
+pub mod Deep
+pub mod Parts

@@ -1,9 +1,10 @@
 pub mod Depth
+pub mod Apart
+pub mod Lexemes
+pub mod Names
 pub mod Forms
 pub mod Grammar
 pub mod Layout
-pub mod Lexemes
-pub mod Names
 pub mod Spell
 pub mod Tree
 pub mod View

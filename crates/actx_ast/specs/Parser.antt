@@ -1,6 +1,5 @@
 -- The parser's moves in statements, its step and its whole run.
-use Rattle.std.specs.Prelude.{◌≡◌, ℕ, suc, max, List, [], ◌∷◌, length, Bool, true, false, ◌==◌, ◌&&◌, ◌||◌, Option, Some, None, codes, if◌then◌else◌}
-use Rattle.actx_ast.specs.declared.operators.FunctionKind.{FunctionKind}
+use Rattle.std.specs.Prelude.{ℕ, suc, max, List, [], ◌∷◌, Bool, true, false, Option, Some, None, codes, if◌then◌else◌}
 use Rattle.actx_ast.specs.declared.side.Side.{Side}
 use Rattle.actx_ast.specs.declared.side.Side.TheVariants.{Source, Plain}
 use Rattle.actx_ast.specs.declared.token.Keyword.{Keyword}
@@ -12,11 +11,10 @@ use Rattle.actx_ast.specs.Grammar.{deepest, most, with_let}
 use Rattle.actx_ast.specs.Lexemes.{Lexeme}
 use Rattle.actx_ast.specs.ParserFunctions.{at_name, at_opened, at_first, at_closed, at_param, behind_param, at_arrow_sign, at_arrow_body, at_body_open, at_params_open, at_function_name, at_function, at_async, at_async_start, at_yield, at_key, behind_key, behind_key_name, at_method_key, behind_async, at_method, behind_property, member_word, at_call, at_words, open_list}
 use Rattle.actx_ast.specs.Names.{word_of}
-use Rattle.actx_ast.specs.ParserOperands.{same_word, is_binding, is_source, fits_below, at_need, at_bump_name, ended, end_lets, at_whole, at_operator, at_have, at_member}
-use Rattle.actx_ast.specs.ParserState.{Limits, fits, takes_more, declaration, Head, arrow_head, function_head, expression, method, ItemsOf, of_statement, of_for, ListOwner, program, body, block, tried, caught, finally, clause_of, Frame, in_value, in_let, in_const, in_return, in_throw, in_if, in_while, in_do_test, in_for_init, in_for_test, in_for_update, in_for_over, in_switch, yes_of, no_of, while_of, do_of, for_body, for_of_body, in_list, Mode, start, body_start, have_stmt, need, have, have_member, have_name, have_bump, whole, opened, first_name, closed_name, bump_name, yield_next, async_next, async_start, function_next, name_next, params_open, param_next, param_behind, arrow_sign, arrow_body, body_open, key_next, key_behind, key_name, key_async, key_end, method_key, method_open, member_name, call_open, words_next, let_name, let_behind, const_name, const_behind, jump_end, return_next, throw_next, if_open, while_open, do_while, do_end, for_open, for_next, for_test, for_update, try_open, catch_next, catch_open, catch_name, catch_close, catch_block, finally_next, finally_open, switch_open, switch_brace, clause_next, case_number, case_colon, Move, refuse, go, go_if, here}
-use Rattle.actx_ast.specs.Tree.{Expr, Function, code, LetItems, no_lets, ConstItems, no_consts, Properties, MaybeExpr, no_expr, some_expr, Init, init_nothing, Stmt, Fun, Block, If, While, DoWhile, For, ForOf, Break, Continue, Return, Try, Empty, Switch, no_stmt, some_stmt, Catch, no_catch, catch, no_last, last, Clauses, no_clauses, clause, Stmts, end, next}
+use Rattle.actx_ast.specs.ParserOperands.{same_word, is_binding, fits_below, at_need, at_bump_name, ended, end_lets, at_whole, at_operator, at_have, at_member}
+use Rattle.actx_ast.specs.ParserState.{Limits, fits, declaration, Head, arrow_head, function_head, expression, method, ItemsOf, of_statement, of_for, ListOwner, program, body, block, tried, caught, finally, clause_of, Frame, in_value, in_let, in_const, in_return, in_throw, in_if, in_while, in_do_test, in_for_init, in_for_test, in_for_update, in_for_over, in_switch, yes_of, no_of, while_of, do_of, for_body, for_of_body, in_list, Mode, start, body_start, have_stmt, need, have, have_member, have_name, have_bump, whole, opened, first_name, closed_name, bump_name, yield_next, async_next, async_start, function_next, name_next, params_open, param_next, param_behind, arrow_sign, arrow_body, body_open, key_next, key_behind, key_name, key_async, key_end, method_key, method_open, member_name, call_open, words_next, let_name, let_behind, const_name, const_behind, jump_end, return_next, throw_next, if_open, while_open, do_while, do_end, for_open, for_next, for_test, for_update, try_open, catch_next, catch_open, catch_name, catch_close, catch_block, finally_next, finally_open, switch_open, switch_brace, clause_next, case_number, case_colon, Move, refuse, go, go_if, here}
+use Rattle.actx_ast.specs.Tree.{Expr, Function, code, LetItems, no_lets, ConstItems, no_consts, MaybeExpr, no_expr, Init, init_nothing, Stmt, Fun, Block, If, While, DoWhile, For, ForOf, Break, Continue, Return, Try, Empty, Switch, no_stmt, some_stmt, Catch, no_catch, catch, no_last, last, Clauses, no_clauses, clause, Stmts, end, next}
 use Rattle.actx_ast.specs.Grammar.{with_property}
-use Rattle.actx_ast.specs.Tree.{Fixed}
 
 -- LISTS THAT GROW AT THEIR END
 abbrev pub with_stmt : Stmts → Stmt → Stmts

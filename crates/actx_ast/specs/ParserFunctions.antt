@@ -1,5 +1,5 @@
 -- The parser's moves in names, functions and object literals.
-use Rattle.std.specs.Prelude.{◌≡◌, ℕ, suc, max, List, [], ◌∷◌, ◌++◌, length, Bool, true, false, ◌==◌, ◌&&◌, ◌||◌, Option, Some, None, codes, if◌then◌else◌}
+use Rattle.std.specs.Prelude.{ℕ, suc, max, List, [], ◌∷◌, ◌++◌, length, Bool, true, false, ◌&&◌, Option, Some, None, codes, if◌then◌else◌}
 use Rattle.actx_ast.specs.declared.operators.BinaryOp.TheVariants as o
 use Rattle.actx_ast.specs.declared.operators.Form.{Form}
 use Rattle.actx_ast.specs.declared.operators.Form.TheVariants.{CallWith}
@@ -12,13 +12,11 @@ use Rattle.actx_ast.specs.declared.token.Keyword.TheVariants as k
 use Rattle.actx_ast.specs.declared.token.Sign.TheVariants as g
 use Rattle.actx_ast.specs.declared.token.TokenKind.{TokenKind}
 use Rattle.actx_ast.specs.declared.token.TokenKind.TheVariants as t
-use Rattle.actx_ast.specs.Grammar.{deepest, most, with_let, with_property}
-use Rattle.actx_ast.specs.Lexemes.{Lexeme}
-use Rattle.actx_ast.specs.Names.{word_of}
-use Rattle.actx_ast.specs.ParserOperands.{same_word, is_binding, is_source, named, forms_of, form_with, words_go, takes_whole, begins_statement, fits_below, at_need, at_bump_name, ended, end_lets, at_whole, at_operator, at_have, at_member}
+use Rattle.actx_ast.specs.Grammar.{with_property}
+use Rattle.actx_ast.specs.ParserOperands.{same_word, is_binding, is_source, named, forms_of, form_with, words_go, takes_whole, begins_statement, fits_below, at_need, at_whole, at_have}
 
-use Rattle.actx_ast.specs.ParserState.{Limits, fits, takes_more, Role, expression, declaration, method, Head, arrow_head, function_head, ItemsOf, of_statement, of_for, ListOwner, program, body, block, tried, caught, finally, clause_of, Frame, in_paren, in_form, in_set_name, in_change, in_computed, in_property, in_arrow, in_yield, in_yield_all, in_value, in_let, in_const, in_return, in_throw, in_if, in_while, in_do_test, in_for_init, in_for_test, in_for_update, in_for_over, in_switch, yes_of, no_of, while_of, do_of, for_body, for_of_body, in_list, Mode, start, body_start, have_stmt, need, have, have_member, have_name, have_bump, whole, opened, first_name, closed_name, bump_name, yield_next, async_next, async_start, function_next, name_next, params_open, param_next, param_behind, arrow_sign, arrow_body, body_open, key_next, key_behind, key_name, key_async, key_end, method_key, method_open, member_name, call_open, words_next, let_name, let_behind, const_name, const_behind, jump_end, return_next, throw_next, if_open, while_open, do_while, do_end, for_open, for_next, for_test, for_update, try_open, catch_next, catch_open, catch_name, catch_close, catch_block, finally_next, finally_open, switch_open, switch_brace, clause_next, case_number, case_colon, Move, refuse, go, go_if, here}
-use Rattle.actx_ast.specs.Tree.{Expr, Named, Bump, Object, Function, Yield, Built, none, also, no_expr, some_expr, Key, Dot, PropKey, Fixed, Properties, no_properties, code, LetItems, no_lets, ConstItems, no_consts, MaybeExpr, Init, init_nothing, Stmt, Fun, Block, If, While, DoWhile, For, ForOf, Break, Continue, Return, Try, Empty, Switch, no_stmt, some_stmt, Catch, no_catch, catch, no_last, last, Clauses, no_clauses, clause, Stmts, end, next}
+use Rattle.actx_ast.specs.ParserState.{Limits, fits, takes_more, Role, expression, declaration, method, Head, arrow_head, function_head, ListOwner, body, Frame, in_paren, in_form, in_set_name, in_change, in_computed, in_property, in_arrow, in_yield, in_yield_all, in_value, in_list, start, need, have, have_member, have_bump, first_name, closed_name, name_next, params_open, param_next, param_behind, arrow_sign, arrow_body, body_open, key_next, key_behind, key_name, key_async, method_key, method_open, call_open, Move, refuse, go, go_if, here}
+use Rattle.actx_ast.specs.Tree.{Expr, Bump, Object, Yield, none, also, no_expr, Dot, PropKey, Fixed, Properties, end}
 use Rattle.actx_ast.specs.Words.{keyword_text, word_units}
 
 -- NAMES AND PARAMETERS

@@ -1,5 +1,5 @@
 -- The parser's moves at an operand and behind one.
-use Rattle.std.specs.Prelude.{◌≡◌, ℕ, suc, ◌+◌, max, List, [], ◌∷◌, ◌++◌, length, Bool, true, false, ◌==◌, ◌&&◌, ◌||◌, nat_le, nat_lt, nat_eq, Option, Some, None, codes, if◌then◌else◌}
+use Rattle.std.specs.Prelude.{ℕ, suc, max, List, [], ◌∷◌, Bool, true, false, ◌==◌, ◌&&◌, ◌||◌, nat_le, nat_eq, Option, Some, None, codes, if◌then◌else◌}
 use Rattle.std.specs.Cmp.Lexicographic.{pointwise}
 use Rattle.actx_data.specs.declared.shown.ErrorName.TheVariants as n
 use Rattle.actx_ast.specs.declared.operators.BinaryOp.{BinaryOp}
@@ -7,7 +7,6 @@ use Rattle.actx_ast.specs.declared.operators.BinaryOp.TheVariants as o
 use Rattle.actx_ast.specs.declared.operators.Form.{Form}
 use Rattle.actx_ast.specs.declared.operators.Form.TheVariants as f
 use Rattle.actx_ast.specs.declared.operators.FunctionKind.{FunctionKind}
-use Rattle.actx_ast.specs.declared.operators.FunctionKind.TheVariants.{Normal, Arrow, Generator, Async, AsyncArrow}
 use Rattle.actx_ast.specs.declared.operators.LogicOp.{LogicOp}
 use Rattle.actx_ast.specs.declared.operators.LogicOp.TheVariants.{And, Or, Coalesce}
 use Rattle.actx_ast.specs.declared.operators.UnaryOp.{UnaryOp}
@@ -16,17 +15,14 @@ use Rattle.actx_ast.specs.declared.side.Side.{Side}
 use Rattle.actx_ast.specs.declared.side.Side.TheVariants.{Source, Plain}
 use Rattle.actx_ast.specs.declared.token.Keyword.{Keyword}
 use Rattle.actx_ast.specs.declared.token.Keyword.TheVariants as k
-use Rattle.actx_ast.specs.declared.token.Sign.{Sign}
 use Rattle.actx_ast.specs.declared.token.Sign.TheVariants as g
 use Rattle.actx_ast.specs.declared.token.TokenKind.{TokenKind}
 use Rattle.actx_ast.specs.declared.token.TokenKind.TheVariants as t
-use Rattle.actx_ast.specs.Forms.{level_of, form_words}
+use Rattle.actx_ast.specs.Forms.{form_words}
 use Rattle.actx_ast.specs.Grammar.{count, with_last, with_let, with_const, with_property}
-use Rattle.actx_ast.specs.Lexemes.{Lexeme}
-use Rattle.actx_ast.specs.Names.{built_in, word_of}
-use Rattle.actx_ast.specs.ParserState.{Limits, at_most, fits, takes_more, Role, expression, declaration, method, Head, arrow_head, function_head, ItemsOf, of_statement, of_for, ListOwner, body, Frame, in_unary, in_await, in_binary, in_logic, in_choice, in_other, in_paren, in_call, in_form, in_set_name, in_set, in_change, in_index, in_computed, in_property, in_arrow, in_yield, in_yield_all, in_value, in_let, in_const, in_return, in_throw, in_if, in_while, in_do_test, in_for_init, in_for_test, in_for_update, in_for_over, in_switch, yes_of, while_of, for_body, for_of_body, in_list, Mode, start, body_start, have_stmt, need, have, have_member, have_name, have_bump, whole, opened, first_name, closed_name, bump_name, yield_next, async_next, function_next, name_next, params_open, param_next, param_behind, arrow_sign, arrow_body, body_open, key_next, key_behind, key_name, key_async, key_end, method_key, method_open, member_name, call_open, words_next, let_name, const_name, do_end, for_test, for_update, switch_brace, Move, refuse, go, go_if, here, Settled, settled, settle}
-use Rattle.actx_ast.specs.Tree.{Expr, Num, Text, Truth, Null, Undefined, This, Named, Bump, Member, Call, Object, Function, Yield, Built, Exprs, none, also, MaybeExpr, no_expr, some_expr, Key, Dot, Index, PropKey, Fixed, Computed, Properties, no_properties, code, LetItems, ConstItems, Init, init_let, init_const, init_value, Stmt, Let, Const, Return, Throw, Value, Stmts, end}
-use Rattle.actx_ast.specs.Words.{keyword_text, word_units}
+use Rattle.actx_ast.specs.Names.{built_in}
+use Rattle.actx_ast.specs.ParserState.{Limits, at_most, fits, takes_more, expression, ItemsOf, of_statement, of_for, Frame, in_unary, in_await, in_binary, in_logic, in_choice, in_other, in_paren, in_call, in_form, in_set, in_index, in_computed, in_property, in_value, in_let, in_const, in_return, in_throw, in_if, in_while, in_do_test, in_for_init, in_for_test, in_for_update, in_for_over, in_switch, yes_of, while_of, for_body, for_of_body, body_start, have_stmt, need, have, have_member, have_name, have_bump, opened, bump_name, yield_next, async_next, function_next, key_next, key_behind, method_open, member_name, words_next, let_name, const_name, do_end, for_test, for_update, switch_brace, Move, refuse, go, go_if, here, Settled, settled, settle}
+use Rattle.actx_ast.specs.Tree.{Expr, Num, Text, Truth, Null, Undefined, This, Named, Bump, Member, Call, Object, Built, none, some_expr, Key, Index, Computed, Properties, no_properties, LetItems, ConstItems, init_let, init_const, init_value, Stmt, Let, Const, Return, Throw, Value}
 
 -- NAMES
 abbrev pub same_word : List ℕ → List ℕ → Bool

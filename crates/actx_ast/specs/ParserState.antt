@@ -1,15 +1,13 @@
 -- The parser as a machine: a token at a time, over a stack of all that is open, the innermost first.
-use Rattle.std.specs.Prelude.{ℕ, suc, ◌+◌, max, List, [], ◌∷◌, ◌++◌, length, Bool, true, false, ◌&&◌, nat_le, nat_lt, Option, Some, None, if◌then◌else◌}
+use Rattle.std.specs.Prelude.{ℕ, suc, ◌+◌, max, List, [], ◌∷◌, Bool, true, false, nat_le, Option, Some, None, if◌then◌else◌}
 use Rattle.actx_ast.specs.declared.operators.BinaryOp.{BinaryOp}
 use Rattle.actx_ast.specs.declared.operators.Form.{Form}
-use Rattle.actx_ast.specs.declared.operators.Form.TheVariants as f
 use Rattle.actx_ast.specs.declared.operators.FunctionKind.{FunctionKind}
 use Rattle.actx_ast.specs.declared.operators.LogicOp.{LogicOp}
 use Rattle.actx_ast.specs.declared.operators.LogicOp.TheVariants.{And, Or, Coalesce}
 use Rattle.actx_ast.specs.declared.operators.UnaryOp.{UnaryOp}
 use Rattle.actx_ast.specs.declared.token.TokenKind.{TokenKind}
 use Rattle.actx_ast.specs.Forms.{level_of}
-use Rattle.actx_ast.specs.Grammar.{count}
 use Rattle.actx_ast.specs.Tree.{Expr, Logic, Unary, Binary, Choice, SetName, SetMember, Change, Yield, YieldAll, Await, Function, some_expr, Exprs, Key, PropKey, Properties, code, MaybeExpr, LetItems, ConstItems, Init, Stmt, Return, Catch, Clauses, Stmts, end, next}
 
 -- LIMITS

@@ -1,12 +1,14 @@
 //! Trees of programs.
 
+mod drop;
+
 use super::name::Name;
 use super::operators::{BinaryOp, Form, FunctionKind, LogicOp, UnaryOp};
 use actx_data::Units;
+use drop::{Part, run};
 
 /// An expression (ECMA-262, 13).
 #[cycle(tree)]
-#[derive(Drop)]
 pub enum Expr {
     Num(u64),
     Text(Units),
@@ -119,7 +121,6 @@ pub struct Clause {
 
 /// A statement (ECMA-262, 14).
 #[cycle(tree)]
-#[derive(Drop)]
 pub enum Stmt {
     Let(Vec<LetItem>),
     Const(Vec<ConstItem>),
@@ -160,4 +161,123 @@ pub enum Stmt {
 #[derive(Drop)]
 pub struct Program {
     pub body: Vec<Stmt>,
+}
+
+/// What there is no memory to keep is dropped by recursion.
+impl Drop for Expr {
+    #[tactic(auto, using(crate::proofs::Deep::most_below, crate::proofs::Deep::some_expr))]
+    #[cycle(tree)]
+    fn drop(self) {
+        let room = self.room();
+        match room {
+            Some(mut parts) => {
+                self.open(&mut parts);
+                while let Some(part) = run(&mut parts) {
+                    match part {
+                        Part::Expr(_) => {}
+                        Part::Stmt(_) => {}
+                        Part::Function(_) => {}
+                        Part::Exprs(_) => {}
+                        Part::Stmts(_) => {}
+                        Part::Properties(_) => {}
+                        Part::Lets(_) => {}
+                        Part::Consts(_) => {}
+                        Part::Clauses(_) => {}
+                    }
+                }
+                parts.destroy_empty();
+            }
+            None => match self {
+                Expr::Num(_) => {}
+                Expr::Text(_) => {}
+                Expr::Truth(_) => {}
+                Expr::Null => {}
+                Expr::Undefined => {}
+                Expr::This => {}
+                Expr::Named(_) => {}
+                Expr::Unary(_, _) => {}
+                Expr::Binary(_, _, _) => {}
+                Expr::Logic(_, _, _) => {}
+                Expr::Choice(_, _, _) => {}
+                Expr::SetName(_, _) => {}
+                Expr::SetMember(_, _, _) => {}
+                Expr::Change(_, _, _) => {}
+                Expr::Bump {
+                    name: _,
+                    up: _,
+                    before: _,
+                } => {}
+                Expr::Member(_, _) => {}
+                Expr::Call(_, _) => {}
+                Expr::Object(_) => {}
+                Expr::Function(_) => {}
+                Expr::Yield(_) => {}
+                Expr::YieldAll(_) => {}
+                Expr::Await(_) => {}
+                Expr::Form(_, _) => {}
+            },
+        }
+    }
+}
+
+/// What there is no memory to keep is dropped by recursion.
+impl Drop for Stmt {
+    #[tactic(auto, using(crate::proofs::Deep::most_below, crate::proofs::Deep::some_stmt))]
+    #[cycle(tree)]
+    fn drop(self) {
+        let room = self.room();
+        match room {
+            Some(mut parts) => {
+                self.open(&mut parts);
+                while let Some(part) = run(&mut parts) {
+                    match part {
+                        Part::Expr(_) => {}
+                        Part::Stmt(_) => {}
+                        Part::Function(_) => {}
+                        Part::Exprs(_) => {}
+                        Part::Stmts(_) => {}
+                        Part::Properties(_) => {}
+                        Part::Lets(_) => {}
+                        Part::Consts(_) => {}
+                        Part::Clauses(_) => {}
+                    }
+                }
+                parts.destroy_empty();
+            }
+            None => match self {
+                Stmt::Let(_) => {}
+                Stmt::Const(_) => {}
+                Stmt::Fun(_) => {}
+                Stmt::Block(_) => {}
+                Stmt::If(_, _, _) => {}
+                Stmt::While(_, _) => {}
+                Stmt::DoWhile(_, _) => {}
+                Stmt::For(_, _, _, _) => {}
+                Stmt::ForOf {
+                    constant: _,
+                    name: _,
+                    over: _,
+                    body: _,
+                } => {}
+                Stmt::ForAwait {
+                    constant: _,
+                    name: _,
+                    over: _,
+                    body: _,
+                } => {}
+                Stmt::Break => {}
+                Stmt::Continue => {}
+                Stmt::Return(_) => {}
+                Stmt::Throw(_) => {}
+                Stmt::Try {
+                    block: _,
+                    catcher: _,
+                    last: _,
+                } => {}
+                Stmt::Value(_) => {}
+                Stmt::Empty => {}
+                Stmt::Switch(_, _) => {}
+            },
+        }
+    }
 }

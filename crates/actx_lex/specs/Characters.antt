@@ -1,5 +1,6 @@
 -- Characters of a text, and what a text in quotes stands for (ECMA-262, 12). A character is its code point.
 use Rattle.std.specs.Prelude.{◌≢◌, ℕ, ◌+◌, ◌*◌, ◌≤◌, ◌-◌, ◌/◌, ◌%◌, Bool, true, false, ◌==◌, ◌&&◌, ◌||◌, nat_le, nat_lt, IsTrue, List, [], ◌∷◌, ◌++◌, All, if◌then◌else◌}
+use Rattle.actx_ast.specs.Words.{units_of}
 
 abbrev pub AllPass : (ℕ → Bool) → List ℕ → Type 0
 AllPass p cs = All (λ c. IsTrue (p c)) cs
@@ -26,10 +27,6 @@ hex_value c = if is_digit c then c - 48 else (if nat_le c 70 then c - 55 else c 
 abbrev pub hex_on : ℕ → List ℕ → ℕ
 hex_on n [] = n
 hex_on n (c ∷ cs) = hex_on (n * 16 + hex_value c) cs
-
--- a character as UTF-16 code units (11.1.1)
-abbrev pub units_of : ℕ → List ℕ
-units_of c = if nat_lt c 65536 then c ∷ [] else (55296 + (c - 65536) / 1024) ∷ (56320 + (c - 65536) % 1024) ∷ []
 
 -- what a letter behind a backslash stands for (12.9.4, SingleEscapeCharacter); any other character stands for itself
 abbrev pub single_escape : ℕ → ℕ

@@ -4,6 +4,7 @@
 use actx_ast::operators::{BinaryOp, FunctionKind};
 use actx_ast::tree::{Expr, Function, Stmt};
 use std::alloc::{AllocError, Global};
+use std::time::Instant;
 
 fn functions(alloc: Global, depth: u32) -> Result<Stmt, AllocError> {
     let mut st = Stmt::Empty;
@@ -49,27 +50,46 @@ fn sums(alloc: Global, depth: u32) -> Result<Expr, AllocError> {
     Ok(e)
 }
 
-fn all<R: Print>(rt: &R, alloc: Global) -> Result<(), AllocError> {
-    for depth in [1000u32, 5000, 10000, 15000, 20000, 25000, 30000, 33000, 40000, 50000] {
-        let e = sums(alloc, depth)?;
-        drop(e);
-        let _ = println!(rt; "sums {depth}");
+/// A sum of 2 ^ depth things and their like.
+fn full(alloc: Global, depth: u32) -> Result<Expr, AllocError> {
+    if depth == 0 {
+        return Ok(Expr::This);
     }
-    for depth in [1000u32, 5000, 10000, 15000, 20000, 25000, 30000, 33000] {
-        let e = calls(alloc, depth)?;
-        drop(e);
-        let _ = println!(rt; "calls {depth}");
+    let left = full(alloc, depth - 1)?;
+    let right = full(alloc, depth - 1)?;
+    Ok(Expr::Binary(BinaryOp::Add, Box::new(alloc, left)?, Box::new(alloc, right)?))
+}
+
+/// A block of so many statements.
+fn wide(alloc: Global, count: u32) -> Result<Stmt, AllocError> {
+    let mut body = Vec::new(alloc);
+    for _ in 0..count {
+        body.push(Stmt::Value(Expr::Null))?;
     }
-    for depth in [1000u32, 5000, 10000, 15000, 17000, 20000] {
-        let e = ifs(alloc, depth)?;
-        drop(e);
-        let _ = println!(rt; "ifs {depth}");
+    Ok(Stmt::Block(body))
+}
+
+fn timed<T: Drop>(rt: &HostRuntime, name: &str, tree: T) {
+    let Ok(start) = Instant::now(rt) else {
+        return;
+    };
+    drop(tree);
+    let Ok(passed) = start.elapsed(rt) else {
+        return;
+    };
+    let micros = passed.as_micros();
+    let _ = println!(rt; "{name}: {micros} us");
+}
+
+fn all(rt: &HostRuntime, alloc: Global) -> Result<(), AllocError> {
+    for depth in [40000u32, 1000000] {
+        timed(rt, "sums", sums(alloc, depth)?);
+        timed(rt, "calls", calls(alloc, depth)?);
+        timed(rt, "ifs", ifs(alloc, depth)?);
+        timed(rt, "functions", functions(alloc, depth)?);
     }
-    for depth in [1000u32, 5000, 10000, 15000, 17000, 20000] {
-        let e = functions(alloc, depth)?;
-        drop(e);
-        let _ = println!(rt; "functions {depth}");
-    }
+    timed(rt, "full, 2^20 leaves", full(alloc, 20)?);
+    timed(rt, "wide, a million", wide(alloc, 1000000)?);
     Ok(())
 }
 
