@@ -1,0 +1,23 @@
+//! Tokens with their places in a text.
+
+use actx_ast::token::TokenKind;
+
+pub use actx_ast::side::Side;
+
+/// A token of a text.
+#[derive(Debug, Drop)]
+pub struct Token {
+    pub kind: TokenKind,
+    /// Its first byte.
+    pub at: usize,
+    /// Whether a line end stands between it and the token before it.
+    pub line_before: bool,
+}
+
+/// The tokens of a text.
+#[derive(Debug, Drop)]
+pub struct Tokens {
+    pub list: Vec<Token>,
+    /// The length of the text in bytes.
+    pub end: usize,
+}
