@@ -48,6 +48,5 @@ pub mod SideReads
 pub mod SideLists
 pub mod SideSpells
 pub mod SideLaws
-pub mod SideNames
 pub mod Deep
 pub mod Parts

@@ -14,7 +14,6 @@ use Rattle.actx_ast.specs.declared.token.TokenKind.{TokenKind}
 use Rattle.actx_ast.specs.declared.token.TokenKind.TheVariants as t
 use Rattle.actx_ast.specs.Grammar.{with_property}
 use Rattle.actx_ast.specs.ParserOperands.{same_word, is_binding, is_source, named, forms_of, form_with, words_go, takes_whole, begins_statement, fits_below, at_need, at_whole, at_have}
-
 use Rattle.actx_ast.specs.ParserState.{Limits, fits, takes_more, Role, expression, declaration, method, Head, arrow_head, function_head, ListOwner, body, Frame, in_paren, in_form, in_set_name, in_change, in_computed, in_property, in_arrow, in_yield, in_yield_all, in_value, in_list, start, need, have, have_member, have_bump, first_name, closed_name, name_next, params_open, param_next, param_behind, arrow_sign, arrow_body, body_open, key_next, key_behind, key_name, key_async, method_key, method_open, call_open, Move, refuse, go, go_if, here}
 use Rattle.actx_ast.specs.Tree.{Expr, Bump, Object, Yield, none, also, no_expr, Dot, PropKey, Fixed, Properties, end}
 use Rattle.actx_ast.specs.Words.{keyword_text, word_units}

@@ -1,6 +1,7 @@
-//! Laws of how programs are printed. A law's function does nothing: its contract is the law.
+//! Laws of how programs are printed and parsed. A law's function does nothing: its contract is the law.
 
 ghost use Rattle.actx_ast.specs.Depth.{Shallowest};
+ghost use Rattle.actx_ast.specs.Exact.{ParsesWhatIsSpelled, NothingGoesOn, RefusesForItsReason};
 ghost use Rattle.actx_ast.specs.Sides.{ToldByTheTree};
 ghost use Rattle.actx_ast.specs.Spell.{SpelledAgain, SpelledInForm};
 
@@ -24,4 +25,19 @@ pub fn shallowest()
 /// A law: which programs have a spelling on a side is told by the program alone.
 pub fn told_by_the_tree()
     ensures { ToldByTheTree }
+{}
+
+/// A law: the parser's machine answers the program that tokens spell within the limits of a side; so no tokens spell two.
+pub fn parses_what_is_spelled()
+    ensures { ParsesWhatIsSpelled }
+{}
+
+/// A law: where the parser's machine refuses a token, no program within the limits goes on with it.
+pub fn nothing_goes_on()
+    ensures { NothingGoesOn }
+{}
+
+/// A law: what the parser's machine calls unexpected goes on at no depth, and what it calls too deep not within the depth.
+pub fn refuses_for_its_reason()
+    ensures { RefusesForItsReason }
 {}
