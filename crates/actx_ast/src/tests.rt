@@ -232,5 +232,5 @@ fn each_kind_is_dropped(rt: HostRuntime) {
 
 #[test]
 fn deep_trees_are_dropped(rt: HostRuntime) {
-    assert!(rt; deep(rt.alloc(), 100000).is_ok());
+    assert!(rt; deep(rt.alloc(), 40000).is_ok());
 }
