@@ -19,7 +19,7 @@ same_decides x y = bytes_eq-Decides x y
 pub same_self : (x : List ℕ) → same_word x x ≡ true
 same_self x = (same_decides x x).1 refl
 
-one_of_decides : (ys : List (List ℕ)) (x : List ℕ) → Decides (is_one_of ys x) (Contains ys x)
+pub one_of_decides : (ys : List (List ℕ)) (x : List ℕ) → Decides (is_one_of ys x) (Contains ys x)
 one_of_decides ys x =
     Decides-contains ys x (is_one_of ys x)
     (Decides-by_or (λ y. same_word x y) (λ y. y ≡ x) (λ zs. is_one_of zs x) (λ y. Decides-like (same_word x y) (λ e. sym e) (λ e. sym e) (same_decides x y)) refl (λ _ _. refl) ys)
@@ -64,7 +64,7 @@ le_true m n h = grind (arith, nat_tests)
 pub le_false : (m n : ℕ) → n < m → nat_le m n ≡ false
 le_false m n h = grind (arith, nat_tests)
 
-le_from : (m n : ℕ) → nat_le m n ≡ true → m ≤ n
+pub le_from : (m n : ℕ) → nat_le m n ≡ true → m ≤ n
 le_from m n h = grind (arith, nat_tests)
 
 pub allowed : (o : Option ℕ) (n : ℕ) → Allows o n → at_most o n ≡ true

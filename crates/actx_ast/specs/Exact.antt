@@ -1,11 +1,12 @@
--- What the parser's machine promises: it answers the program that tokens spell, and refuses only a token with which no
--- program goes on.
-use Rattle.std.specs.Prelude.{◌≡◌, ℕ, suc, ◌<◌, Option, None, List, ◌++◌, length, take}
+-- What the parser's machine promises: it answers exactly the program that tokens spell, and refuses only a token with which
+-- no program goes on.
+use Rattle.std.specs.Prelude.{◌≡◌, ℕ, suc, ◌<◌, Option, None, List, ◌++◌, length, take, All}
 use Rattle.actx_ast.specs.declared.side.Side.{Side}
 use Rattle.actx_ast.specs.Grammar.{deepest, most, SpellsStmts, IsSpelled}
 use Rattle.actx_ast.specs.Lexemes.{Lexeme}
 use Rattle.actx_ast.specs.Parser.{parse, parsed, refused, Reason, unexpected, too_deep}
 use Rattle.actx_ast.specs.Tree.{Stmts}
+use Rattle.actx_ast.specs.Words.{HasForm}
 
 -- the tokens begin some program's spelling within a bound on lists and a depth
 pub record Begins (side : Side) (bound : Option ℕ) (depth : ℕ) (ts : List Lexeme) : Type 0 where
@@ -21,9 +22,16 @@ BeginsWithin side ts = Begins side (most side) (deepest side) ts
 abbrev pub UpTo : (List Lexeme → Type 0) → ℕ → List Lexeme → Type 0
 UpTo goes_on i ts = i < length ts × goes_on (take (suc i) ts)
 
+-- the tokens have their kinds' forms, as those of a lexer do
+abbrev pub InForm : List Lexeme → Type 0
+InForm ts = All (λ t. HasForm t.kind) ts
+
 -- LAWS
 abbrev pub ParsesWhatIsSpelled : Type 0
 ParsesWhatIsSpelled = (side : Side) (p : Stmts) (ts : List Lexeme) → IsSpelled side p ts → parse side ts ≡ parsed p
+
+abbrev pub SpellsWhatIsParsed : Type 0
+SpellsWhatIsParsed = (side : Side) (p : Stmts) (ts : List Lexeme) → InForm ts → parse side ts ≡ parsed p → IsSpelled side p ts
 
 -- where it refuses a token, no program within the limits goes on with it, and none has the tokens alone
 abbrev pub NothingGoesOn : Type 0

@@ -1,7 +1,8 @@
 //! Laws of how programs are printed and parsed. A law's function does nothing: its contract is the law.
 
 ghost use Rattle.actx_ast.specs.Depth.{Shallowest};
-ghost use Rattle.actx_ast.specs.Exact.{ParsesWhatIsSpelled, NothingGoesOn, RefusesForItsReason};
+ghost use Rattle.actx_ast.specs.Exact.{ParsesWhatIsSpelled, SpellsWhatIsParsed, NothingGoesOn, RefusesForItsReason};
+ghost use Rattle.actx_ast.specs.Grammar.{OneTree};
 ghost use Rattle.actx_ast.specs.Sides.{ToldByTheTree};
 ghost use Rattle.actx_ast.specs.Spell.{SpelledAgain, SpelledInForm};
 
@@ -27,9 +28,19 @@ pub fn told_by_the_tree()
     ensures { ToldByTheTree }
 {}
 
-/// A law: the parser's machine answers the program that tokens spell within the limits of a side; so no tokens spell two.
+/// A law: no tokens spell two programs within the limits of a side.
+pub fn one_tree()
+    ensures { OneTree }
+{}
+
+/// A law: the parser's machine answers the program that tokens spell within the limits of a side.
 pub fn parses_what_is_spelled()
     ensures { ParsesWhatIsSpelled }
+{}
+
+/// A law: the parser's machine answers nothing else: tokens of their kinds' forms spell what it answers.
+pub fn spells_what_is_parsed()
+    ensures { SpellsWhatIsParsed }
 {}
 
 /// A law: where the parser's machine refuses a token, no program within the limits goes on with it.
