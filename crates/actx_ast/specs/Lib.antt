@@ -15,5 +15,6 @@ pub mod ParserFunctions
 pub mod Parser
 pub mod Exact
 pub mod Nodes
+pub mod Places
 pub mod Static
 pub mod Sides
