@@ -1,11 +1,13 @@
-//! Trees of each kind of node, dropped.
+//! Trees of each kind of node, dropped, and names, copied.
 
 use crate::name::Name;
 use crate::operators::{BinaryOp, Form, FunctionKind, LogicOp, UnaryOp};
 use crate::tree::{
     Catcher, Clause, ConstItem, Expr, ForInit, Function, Key, LetItem, PropKey, Property, Stmt,
 };
+use actx_data::Twin;
 use std::alloc::{AllocError, Global};
+use std::test::Fail;
 
 fn boxed(alloc: Global) -> Result<Box<Expr>, AllocError> {
     Ok(Box::new(alloc, Expr::This)?)
@@ -233,4 +235,13 @@ fn each_kind_is_dropped(rt: HostRuntime) {
 #[test]
 fn deep_trees_are_dropped(rt: HostRuntime) {
     assert!(rt; deep(rt.alloc(), 40000).is_ok());
+}
+
+#[test]
+fn names_are_copied(rt: HostRuntime) -> Result<(), Fail> {
+    let name = Name::from_list(rt.alloc(), &['a', 'é'])?;
+    let copy = name.copy(rt.alloc())?;
+    assert!(rt; copy == name);
+    assert_eq!(rt; copy.as_slice().len(), 2);
+    Ok(())
 }
