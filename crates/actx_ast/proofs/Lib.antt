@@ -68,3 +68,4 @@ pub mod SideSpells
 pub mod SideLaws
 pub mod Deep
 pub mod Parts
+pub mod FormDepths

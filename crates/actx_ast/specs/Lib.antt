@@ -17,3 +17,5 @@ pub mod Exact
 pub mod Nodes
 pub mod Static
 pub mod Sides
+pub mod Starts
+pub mod Sizes

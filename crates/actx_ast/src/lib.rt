@@ -1,7 +1,9 @@
 //! Names, tokens and trees of programs.
 #![tactic(auto)]
 
+pub mod depth;
 pub mod laws;
+mod levels;
 pub mod name;
 pub mod operators;
 pub mod side;
