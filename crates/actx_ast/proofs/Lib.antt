@@ -69,3 +69,4 @@ pub mod SideLaws
 pub mod Deep
 pub mod Parts
 pub mod FormDepths
+pub mod Unwrapped

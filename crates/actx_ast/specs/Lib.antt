@@ -19,3 +19,4 @@ pub mod Static
 pub mod Sides
 pub mod Starts
 pub mod Sizes
+pub mod Unspelled
