@@ -70,3 +70,4 @@ pub mod Deep
 pub mod Parts
 pub mod FormDepths
 pub mod Unwrapped
+pub mod SpellSteps

@@ -94,6 +94,7 @@ fn is_written(text: &[u8], word: &[char]) -> bool
 /// # Errors
 ///
 /// `NoMemory` where memory runs out.
+#[tactic(auto, using(crate::proofs::SpellSteps::word_free))]
 pub fn word_token(alloc: Global, word: &Name) -> Result<TokenKind, NoMemory>
     ensures { IfOk result (λ t. t ≡ word_token word.now) }
 {

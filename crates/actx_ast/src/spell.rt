@@ -6,9 +6,11 @@ ghost use Rattle.actx_ast.specs.Spell as spec;
 ghost use Rattle.actx_ast.specs.Unspelled.{rest_of, text, weigh, weight};
 ghost use Rattle.actx_ast.specs.View.{program_view};
 
+mod blocks;
 mod calls;
 mod exprs;
 mod lists;
+mod loops;
 mod put;
 mod signs;
 mod stmts;
@@ -19,11 +21,12 @@ use super::operators::Form;
 use super::token::{Keyword, Sign, TokenKind};
 use super::tree::{Clause, ConstItem, Expr, Function, LetItem, Program, Property, Stmt};
 use actx_data::NoMemory;
+use blocks::clauses;
 use exprs::tree;
 use lists::{more_consts, more_exprs, more_lets, more_properties};
 use put::{put, put_form, put_head};
 use std::alloc::Global;
-use stmts::{clauses, statement, statements};
+use stmts::{statement, statements};
 
 /// Something left to spell.
 #[derive(Drop)]

@@ -241,11 +241,7 @@ fn member<'a>(
 
 /// A reserved word may stand behind the dot.
 #[tactic(auto, using(std::proofs::Common::append_assoc))]
-fn key_tokens<'a>(
-    alloc: Global,
-    work: &mut Vec<Work<'a>>,
-    key: &'a Key,
-) -> Result<(), NoMemory>
+fn key_tokens<'a>(alloc: Global, work: &mut Vec<Work<'a>>, key: &'a Key) -> Result<(), NoMemory>
     ensures rest { OnOk result (rest_of work.new.items ≡ spec.spell_key (key_view key.now) ++ rest_of work.old.items) }
     ensures weight { OnOk result (weigh work.new.items ≤ weigh work.old.items + key_size (key_view key.now)) }
 {

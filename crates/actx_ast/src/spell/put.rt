@@ -105,11 +105,7 @@ fn put_error(alloc: Global, out: &mut Vec<TokenKind>, name: ErrorName) -> Result
 }
 
 /// The tokens before the arguments of a form; an inner form has none.
-pub(super) fn put_form(
-    alloc: Global,
-    out: &mut Vec<TokenKind>,
-    form: Form,
-) -> Result<(), NoMemory>
+pub(super) fn put_form(alloc: Global, out: &mut Vec<TokenKind>, form: Form) -> Result<(), NoMemory>
     ensures { OnOk result (out.new.items ≡ out.old.items ++ form_words form) }
 {
     match form {
@@ -140,11 +136,7 @@ pub(super) fn put_form(
 }
 
 /// Names, each with a comma before it.
-fn put_more_names(
-    alloc: Global,
-    out: &mut Vec<TokenKind>,
-    names: &[Name],
-) -> Result<(), NoMemory>
+fn put_more_names(alloc: Global, out: &mut Vec<TokenKind>, names: &[Name]) -> Result<(), NoMemory>
     ensures { OnOk result (out.new.items ≡ out.old.items ++ spell_more_names names.now) }
 {
     for name in names {
