@@ -16,7 +16,7 @@ use Rattle.actx_ast.specs.Words.{keyword_text, keywords}
 words_free : (ws : List Keyword) (x : List ℕ) → ((q : Keyword) → x ≢ keyword_text q) → word_among ws x ≡ t.Name x
 words_free [] x h = refl
 words_free (w ∷ ws) x h =
-    let apart : pointwise ◌==◌ (keyword_text w) x ≡ false = false_from_ne_true (pointwise ◌==◌ (keyword_text w) x) (λ e. h w (sym (same_text (keyword_text w) x e))) in
+    let apart : pointwise ◌==◌ (keyword_text w) x ≡ false = false_from_ne_true (pointwise ◌==◌ (keyword_text w) x) (λ e. h w (sym (same_text (keyword_text w) x (sym e)))) in
     cond-false (pointwise ◌==◌ (keyword_text w) x) (t.Keyword w) (word_among ws x) apart ∙ words_free ws x h
 
 pub word_free : (x : List ℕ) → ((q : Keyword) → x ≢ keyword_text q) → word_token x ≡ t.Name x

@@ -1,4 +1,4 @@
-//! How deep a program's own tokens go: `(a + b) * c` goes 4 levels deep, with its parentheses.
+//! How deep a program's own tokens go: `( a + b ) * c ;` goes 5 levels deep, as a statement, a product, parentheses, a sum and a name.
 
 ghost use Rattle.std.specs.Prelude.{◌≡◌, drop, min, max, suc, option_map, ℕ};
 ghost use Rattle.actx_ast.specs.Depth as spec;
@@ -15,7 +15,8 @@ use super::tree::{
     Stmt,
 };
 
-/// How deep the program's own tokens go, or 4,294,967,295 where that is less.
+/// How deep the program's own tokens go, or 4,294,967,295 where that is less: a node is one level deeper than its parent,
+/// parentheses are a level, and a list goes as deep as the deepest of its parts.
 pub fn depth(program: &Program) -> u32
     ensures { result ≡ min (spec.depth_program (program_view program.now)) 4294967295 }
 {
@@ -351,3 +352,6 @@ fn clauses_depth(clauses: &[Clause]) -> u32
     }
     depth
 }
+
+#[cfg(test)]
+mod tests;

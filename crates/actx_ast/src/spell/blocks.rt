@@ -105,18 +105,27 @@ pub(super) fn switch<'a>(
 }
 
 /// Clauses of a `switch`, one behind another.
-#[tactic(auto, using(std::proofs::Common::append_assoc, crate::proofs::SpellSteps::one_clause))]
 pub(super) fn clauses<'a>(work: &mut Vec<Work<'a>>, rows: &'a [Clause]) -> Result<(), NoMemory>
     ensures rest { OnOk result (rest_of work.new.items ≡ spec.spell_clauses (clauses_view rows.now) ++ rest_of work.old.items) }
     ensures weight { OnOk result (weigh work.new.items < weigh work.old.items + 1 + clauses_size (clauses_view rows.now)) }
 {
     match rows {
         [] => Ok(()),
-        [first, rest @ ..] => {
-            push(work, Work::Clauses(rest))?;
-            clause(work, first)
-        }
+        [first, rest @ ..] => with_clauses(work, first, rest),
     }
+}
+
+#[tactic(auto, using(std::proofs::Common::append_assoc, crate::proofs::SpellSteps::one_clause))]
+fn with_clauses<'a>(
+    work: &mut Vec<Work<'a>>,
+    first: &'a Clause,
+    rest: &'a [Clause],
+) -> Result<(), NoMemory>
+    ensures rest { OnOk result (rest_of work.new.items ≡ spec.spell_clauses (node.clause (clause_view first.now).0 (clause_view first.now).1 (clauses_view rest.now)) ++ rest_of work.old.items) }
+    ensures weight { OnOk result (weigh work.new.items ≤ weigh work.old.items + 5 + stmts_size (clause_view first.now).1 + clauses_size (clauses_view rest.now)) }
+{
+    push(work, Work::Clauses(rest))?;
+    clause(work, first)
 }
 
 /// `case 1 : statements` or `default : statements`

@@ -1,19 +1,19 @@
 //! Statements that are spelled next: `let a = 1 ;`.
 
-ghost use Rattle.std.specs.Prelude.{◌≡◌, ◌≤◌, ◌<◌, ◌+◌, ◌++◌, ◌∷◌, [], OnOk};
-ghost use Rattle.actx_ast.specs.Sizes.{consts_size, expr_size, lets_size, stmt_size, stmts_size};
+ghost use Rattle.std.specs.Prelude.{◌≡◌, ◌≤◌, ◌<◌, ◌+◌, ◌++◌, ◌∷◌, [], option_map, OnOk};
+ghost use Rattle.actx_ast.specs.Sizes.{consts_size, expr_size, lets_size, maybe_size, stmt_size, stmts_size};
 ghost use Rattle.actx_ast.specs.Spell as spec;
 ghost use Rattle.actx_ast.specs.Spell.{inner};
 ghost use Rattle.actx_ast.specs.Tree as node;
 ghost use Rattle.actx_ast.specs.Unspelled.{rest_of, weigh};
-ghost use Rattle.actx_ast.specs.View.{consts_view, expr_view, lets_view, stmt_view, stmts_view};
+ghost use Rattle.actx_ast.specs.View.{consts_view, expr_view, lets_view, maybe_expr, stmt_view, stmts_view};
 
 use super::blocks::{caught, caught_last, switch};
 use super::calls::{block, function};
 use super::lists::{list_consts, list_lets};
 use super::loops::{do_while, for_await, for_loop, for_of, headed_body, if_else};
 use super::{Work, keyword, push, sign};
-use crate::token::{Keyword, Sign};
+use crate::token::{Keyword, Sign, TokenKind};
 use crate::tree::{ConstItem, Expr, LetItem, Stmt};
 use actx_data::NoMemory;
 use std::alloc::Global;
@@ -65,8 +65,7 @@ pub(super) fn statement<'a>(
         } => for_await(alloc, work, *constant, name, over, body),
         Stmt::Break => ended(work, Keyword::Break),
         Stmt::Continue => ended(work, Keyword::Continue),
-        Stmt::Return(None) => ended(work, Keyword::Return),
-        Stmt::Return(Some(value)) => led(work, Keyword::Return, value),
+        Stmt::Return(value) => returned(work, value),
         Stmt::Throw(value) => led(work, Keyword::Throw, value),
         Stmt::Try {
             block,
@@ -110,6 +109,17 @@ fn const_items<'a>(
     sign(work, Sign::Semicolon)?;
     list_consts(alloc, work, items)?;
     keyword(work, Keyword::Const)
+}
+
+/// `return ;` and `return value ;`
+fn returned<'a>(work: &mut Vec<Work<'a>>, value: &'a Option<Expr>) -> Result<(), NoMemory>
+    ensures rest { OnOk result (rest_of work.new.items ≡ spec.spell_stmt (node.Return (maybe_expr (option_map expr_view value.now))) ++ rest_of work.old.items) }
+    ensures weight { OnOk result (weigh work.new.items ≤ weigh work.old.items + 2 + maybe_size (maybe_expr (option_map expr_view value.now))) }
+{
+    match value {
+        None => ended(work, Keyword::Return),
+        Some(value) => led(work, Keyword::Return, value),
+    }
 }
 
 /// `value ;`
