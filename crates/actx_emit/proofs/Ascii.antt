@@ -1,5 +1,5 @@
 -- Texts of reserved words, signs and numbers are ASCII, and their own UTF-8.
-use Rattle.std.proofs.Common.{◌≡◌, ℕ, zero, suc, ◌<◌, ◌^◌, List, [], ◌∷◌, ◌++◌, get_or, refl, arith, decimal, true, nat_lt, lit<}
+use Rattle.std.proofs.Common.{◌≡◌, ℕ, zero, suc, ◌<◌, ◌^◌, List, [], ◌∷◌, refl, arith, decimal, true, nat_lt, lit<}
 use Rattle.std.specs.List.{list_all}
 use Rattle.std.specs.Str.{IsAscii, encode_utf8_all}
 use Rattle.std.proofs.lemmas.Bool.{and_parts, ltb-true}
@@ -11,16 +11,15 @@ use Rattle.actx_ast.specs.declared.token.Sign.{Sign}
 use Rattle.actx_ast.specs.declared.token.Sign.TheVariants as s
 use Rattle.actx_ast.specs.Words.{keyword_text, sign_text}
 
-pub all_ascii : (w : List ℕ) → list_all (λ c. nat_lt c 128) w ≡ true → IsAscii w
-all_ascii [] h = λ i. lit< tt
-all_ascii (c ∷ cs) h = λ i. at i
-  where
-    parts : ((nat_lt c 128 ≡ true) × (list_all (λ c. nat_lt c 128) cs ≡ true))
-    parts = and_parts (nat_lt c 128) (list_all (λ c. nat_lt c 128) cs) h
+ascii_cons : (c : ℕ) (cs : List ℕ) → c < 128 → IsAscii cs → IsAscii (c ∷ cs)
+ascii_cons c cs h g zero = h
+ascii_cons c cs h g (suc i) = g i
 
-    at : (i : ℕ) → get_or (c ∷ cs) i 0 < 128
-    at zero = ltb-true c 128 parts.0
-    at (suc i) = all_ascii cs parts.1 i
+all_ascii : (w : List ℕ) → list_all (λ c. nat_lt c 128) w ≡ true → IsAscii w
+all_ascii [] h = λ i. lit< tt
+all_ascii (c ∷ cs) h =
+    let parts = and_parts (nat_lt c 128) (list_all (λ c. nat_lt c 128) cs) h in
+    ascii_cons c cs (ltb-true c 128 parts.0) (all_ascii cs parts.1)
 
 keyword_low : (q : Keyword) → list_all (λ c. nat_lt c 128) (keyword_text q) ≡ true
 keyword_low k.Async = refl

@@ -117,7 +117,7 @@ number_at fresh n rest b h g =
     let same : digits_value 10 (take (length w) text) ≡ n = ap (digits_value 10) front ∙ value in
     subst (λ v. Begins fresh text (t.Number v) (length w)) same
     (number_begins fresh text (length w) start (run_len is_digit w rest b all (gap_digit b g)) (fits w (b ∷ rest)) (λ z. leading n small (sym first ∙ z))
-        (subst (λ v. IsTrue (begins_free v)) (sym behind) (gap_free b rest g)) (subst (λ v. v ≤ greatest_number) (sym same) h))
+    (subst (λ v. IsTrue (begins_free v)) (sym behind) (gap_free b rest g)) (subst (λ v. v ≤ greatest_number) (sym same) h))
 
 -- TEXTS
 text_at : (fresh : Bool) (us rest : List ℕ) (b : ℕ) → All (λ u. u < 65536) us → Begins fresh (quoted us ++ b ∷ rest) (t.Text us) (length (quoted us))

@@ -25,8 +25,8 @@ use Rattle.actx_emit.proofs.Beginnings.{IsGap, feed, space, token_at_gap}
 use Rattle.actx_emit.proofs.Scalars.{layout_scalars}
 
 -- ONE TOKEN AND A GAP
-one_read : {p r : Place} {j : TokenKind} {w cs left : List ℕ} {ts : List Token} → Begins (is_fresh p) (w ++ cs) j (length w) → Reads (behind p w) cs ts r left → Reads p (w ++ cs) (token_at j p ∷ ts) r left
-one_read {p} {r} {j} {w} {cs} {left} {ts} b more =
+one_read : {p r : Place} {j : TokenKind} {left : List ℕ} {ts : List Token} (w cs : List ℕ) → Begins (is_fresh p) (w ++ cs) j (length w) → Reads (behind p w) cs ts r left → Reads p (w ++ cs) (token_at j p ∷ ts) r left
+one_read {p} {r} {j} {left} {ts} w cs b more =
     let front : take (length w) (w ++ cs) ≡ w = take_at w cs (length w) refl in
     let rest : drop (length w) (w ++ cs) ≡ cs = drop_at w cs (length w) refl in
     token (subst (IsToken j) front b.token) (subst (λ v. IsLongest v cs) front (subst (IsLongest (take (length w) (w ++ cs))) rest b.longest)) (subst (MayFollow (is_fresh p) j) rest b.follows) more
@@ -55,7 +55,7 @@ read_from p (k ∷ []) h =
     record {
       tokens = token_at k p ∷ [];
       last = passed (behind p (token_text k)) (10 ∷ []);
-      reads = one_read (token_at_gap (is_fresh p) k [] 10 (All-head HasForm k [] h) feed) (gap_read feed here);
+      reads = one_read (token_text k) (10 ∷ []) (token_at_gap (is_fresh p) k [] 10 (All-head HasForm k [] h) feed) (gap_read feed here);
       own = refl;
     }
 read_from p (k ∷ j ∷ ts) h =
@@ -64,7 +64,7 @@ read_from p (k ∷ j ∷ ts) h =
     record {
       tokens = token_at k p ∷ more.tokens;
       last = more.last;
-      reads = one_read (token_at_gap (is_fresh p) k (layout (j ∷ ts)) (gap_after k) (All-head HasForm k (j ∷ ts) h) (gap_is k)) (gap_read (gap_is k) more.reads);
+      reads = one_read (token_text k) (gap_after k ∷ layout (j ∷ ts)) (token_at_gap (is_fresh p) k (layout (j ∷ ts)) (gap_after k) (All-head HasForm k (j ∷ ts) h) (gap_is k)) (gap_read (gap_is k) more.reads);
       own = ap (λ v. record { kind = k; line_before = p.line_before } ∷ v) (more.own ∙ ap (λ b. laid_from b (j ∷ ts)) (gap_line p (token_text k) k));
     }
 

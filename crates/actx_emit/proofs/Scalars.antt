@@ -1,7 +1,7 @@
 -- Each character of a printed text is a Unicode scalar value.
-use Rattle.std.proofs.Common.{◌≡◌, inl, inr, ℕ, ◌+◌, ◌/◌, ◌%◌, ◌<◌, ◌≤◌, ◌^◌, Bool, true, false, not, ◌&&◌, ◌||◌, List, [], ◌∷◌, ◌++◌, get_or, refl, sym, ◌∙◌, ap, subst, arith, IsTrue, All, flat_map, decimal, eqb, leb, ltb, lit<}
+use Rattle.std.proofs.Common.{◌≡◌, inl, inr, ℕ, suc, ◌+◌, ◌/◌, ◌%◌, ◌<◌, ◌≤◌, ◌^◌, Bool, true, false, not, ◌&&◌, ◌||◌, List, [], ◌∷◌, ◌++◌, get_or, refl, sym, ◌∙◌, ap, subst, arith, IsTrue, All, flat_map, decimal, eqb, leb, ltb, lit<}
 use Rattle.std.specs.Str.{all_scalars, IsAscii}
-use Rattle.std.proofs.lemmas.Bool.{cond_both, or_cases, and_parts, leb-true}
+use Rattle.std.proofs.lemmas.Bool.{cond_both, or_cases, and_parts, leb-true, eqb-true}
 use Rattle.std.proofs.lemmas.Fmt.{IsAscii-decimal}
 use Rattle.std.proofs.lemmas.List.Elements.{All-head, All-tail}
 use Rattle.std.proofs.Math.Utf8.{scalar, low_scalar}
@@ -35,7 +35,7 @@ low c h = low_scalar c (omega arith)
 
 ascii_scalars : (xs : List ℕ) → IsAscii xs → all_scalars xs ≡ true
 ascii_scalars [] h = refl
-ascii_scalars (x ∷ xs) h = scalar_first x xs (low x (h 0)) (ascii_scalars xs (λ i. h (i + 1)))
+ascii_scalars (x ∷ xs) h = scalar_first x xs (low x (h 0)) (ascii_scalars xs (λ i. h (suc i)))
 
 -- NAMES
 scalar_ranges : List (ℕ × ℕ)
@@ -64,17 +64,18 @@ name_scalars (c ∷ cs) h =
     scalar_first c cs (part_scalar c (All-head (λ v. IsTrue (is_name_part v)) c cs h)) (name_scalars cs (All-tail (λ v. IsTrue (is_name_part v)) c cs h))
 
 -- TEXTS
+four_scalars : (a b c d : ℕ) → a < 128 → b < 128 → c < 128 → d < 128 → all_scalars (92 ∷ 117 ∷ a ∷ b ∷ c ∷ d ∷ []) ≡ true
+four_scalars a b c d p q r s =
+    scalar_first a (b ∷ c ∷ d ∷ []) (low a p) (scalar_first b (c ∷ d ∷ []) (low b q) (scalar_first c (d ∷ []) (low c r) (scalar_first d [] (low d s) refl)))
+
 unit_scalars : (u : ℕ) → u < 65536 → all_scalars (unit_text u) ≡ true
 unit_scalars u h =
     cond_both (eqb u 34 || eqb u 92) (92 ∷ u ∷ []) _ (λ v. all_scalars v ≡ true)
     (λ e. scalar_first 92 (u ∷ []) refl (scalar_first u [] (either u e) refl))
     (λ _. cond_both (leb 32 u && leb u 126) (u ∷ []) _ (λ v. all_scalars v ≡ true)
     (λ e. scalar_first u [] (low u (let p = leb-true u 126 (and_parts (leb 32 u) (leb u 126) e).1 in omega arith)) refl)
-    (λ _. scalar_first 92 _ refl (scalar_first 117 _ refl
-        (scalar_first _ _ (low _ (digit_low (u / 4096) (omega arith)))
-        (scalar_first _ _ (low _ (digit_low (u / 256 % 16) (omega arith)))
-        (scalar_first _ _ (low _ (digit_low (u / 16 % 16) (omega arith)))
-        (scalar_first _ [] (low _ (digit_low (u % 16) (omega arith))) refl)))))))
+    (λ _. four_scalars (hex_digit (u / 4096)) (hex_digit (u / 256 % 16)) (hex_digit (u / 16 % 16)) (hex_digit (u % 16))
+    (digit_low (u / 4096) (omega arith)) (digit_low (u / 256 % 16) (omega arith)) (digit_low (u / 16 % 16) (omega arith)) (digit_low (u % 16) (omega arith))))
   where
     either : (u : ℕ) → (eqb u 34 || eqb u 92) ≡ true → scalar u ≡ true
     either u e =

@@ -1,5 +1,6 @@
 -- The text of tokens, one after another.
-use Rattle.std.proofs.Common.{◌≡◌, ℕ, ◌+◌, ◌<◌, inl, inr, Bool, false, cond, List, [], ◌∷◌, ◌++◌, length, get_or, drop, refl, sym, ◌∙◌, ap, subst, arith, eqb, encode_utf8}
+use Rattle.std.proofs.Common.{◌≡◌, ℕ, ◌+◌, ◌<◌, inl, inr, Bool, false, cond, List, [], ◌∷◌, ◌++◌, length, get_or, drop, refl, sym, ◌∙◌, ap, subst, arith, eqb, encode_utf8, flat_map, Result, Ok, Err}
+use Rattle.std.specs.Prelude.{OnOk, is_ok, if◌then◌else◌}
 use Rattle.std.specs.Str.{encode_utf8_all}
 use Rattle.std.proofs.lemmas.Bool.{cases_eq, eq-eqb, ne_eqb, cond-false}
 use Rattle.std.proofs.lemmas.List.{drop_more, length-drop, append_assoc, append-nil}
@@ -46,3 +47,42 @@ left_pushed whole done mid text ts i g t lt at e m gap all =
     ∙ ap (λ v. done ++ (encode_utf8_all (token_text t) ++ (encode_utf8 v ++ rest))) gap
     ∙ ap (λ v. done ++ v) (sym next)
     ∙ e
+
+-- IN A TOKEN
+-- a character more, and the text of a unit more
+pub char_pushed : (done start : List ℕ) (xs text : List ℕ) (c : ℕ) → done ≡ start ++ encode_utf8_all xs → text ≡ done ++ encode_utf8 c → text ≡ start ++ encode_utf8_all (xs ++ c ∷ [])
+char_pushed done start xs text c e h =
+    h ∙ ap (λ v. v ++ encode_utf8 c) e
+    ∙ append_assoc start (encode_utf8_all xs) (encode_utf8 c)
+    ∙ ap (λ v. start ++ (encode_utf8_all xs ++ v)) (sym (append-nil (encode_utf8 c)))
+    ∙ ap (λ v. start ++ v) (sym (encodes-append xs (c ∷ [])))
+
+flat_map_last : (f : ℕ → List ℕ) (xs : List ℕ) (x : ℕ) → flat_map f (xs ++ x ∷ []) ≡ flat_map f xs ++ f x
+flat_map_last f [] x = append-nil (f x)
+flat_map_last f (y ∷ xs) x = ap (λ v. f y ++ v) (flat_map_last f xs x) ∙ sym (append_assoc (f y) (flat_map f xs) (f x))
+
+pub unit_pushed : (f : ℕ → List ℕ) (done start : List ℕ) (xs text : List ℕ) (x : ℕ) → done ≡ start ++ encode_utf8_all (flat_map f xs) → text ≡ done ++ encode_utf8_all (f x) → text ≡ start ++ encode_utf8_all (flat_map f (xs ++ x ∷ []))
+unit_pushed f done start xs text x e h =
+    h ∙ ap (λ v. v ++ encode_utf8_all (f x)) e
+    ∙ append_assoc start (encode_utf8_all (flat_map f xs)) (encode_utf8_all (f x))
+    ∙ ap (λ v. start ++ v) (sym (ap encode_utf8_all (flat_map_last f xs x) ∙ encodes-append (flat_map f xs) (f x)))
+
+-- between quotes
+pub quoted_pushed : (start one two three us : List ℕ) → one ≡ start ++ encode_utf8 34 → two ≡ one ++ encode_utf8_all us → three ≡ two ++ encode_utf8 34 → three ≡ start ++ encode_utf8_all (34 ∷ (us ++ 34 ∷ []))
+quoted_pushed start one two three us a b c =
+    let q = encode_utf8 34 in
+    let w = encode_utf8_all us in
+    let groups : ((start ++ q) ++ w) ++ q ≡ start ++ (q ++ (w ++ q)) = simp append_assoc in
+    c ∙ ap (λ v. v ++ q) (b ∙ ap (λ v. v ++ w) a) ∙ groups
+    ∙ ap (λ v. start ++ (q ++ (w ++ v))) (sym (append-nil q))
+    ∙ ap (λ v. start ++ (q ++ v)) (sym (encodes-append us (34 ∷ [])))
+
+-- what holds on an Ok, carried on
+pub on_ok : {T E : Type 0} (P Q : Type 0) (r : Result T E) → (P → Q) → OnOk r P → OnOk r Q
+on_ok P Q (Ok t) f h = f h
+on_ok P Q (Err e) f h = tt
+
+-- what is so where a call was Ok
+pub told_ok : {T E : Type 0} (r : Result T E) (x a b : List ℕ) → x ≡ (if is_ok r then a else b) → OnOk r (x ≡ a)
+told_ok (Ok t) x a b h = h
+told_ok (Err e) x a b h = tt

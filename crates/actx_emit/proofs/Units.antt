@@ -1,7 +1,7 @@
 -- The units of a text, each by itself or escaped, stand between quotes for themselves.
 use Rattle.std.proofs.Common.{◌≡◌, ◌≢◌, inl, inr, ℕ, ◌+◌, ◌*◌, ◌/◌, ◌%◌, ◌<◌, ◌≤◌, Bool, true, false, cond, ◌&&◌, ◌||◌, List, [], ◌∷◌, ◌++◌, refl, sym, ◌∙◌, ap, subst, arith, IsTrue, All, flat_map, eqb, leb, ltb}
 use Rattle.std.proofs.lemmas.Bool.{cond_both, or_cases, or_parts, and_parts, eqb-true, eqb-false, leb-true}
-use Rattle.std.proofs.lemmas.List.Elements.{All-nil, All-cons, All-head, All-tail}
+use Rattle.std.proofs.lemmas.List.Elements.{All-from_recursion, All-head, All-tail}
 use Rattle.actx_ast.specs.Words.{units_of}
 use Rattle.actx_lex.specs.Characters.{AllPass, is_hex, hex_value, hex_on, is_escaped, single_escape, Inside, nothing, itself, single, four_hex}
 use Rattle.actx_lex.proofs.Insides.{small_units}
@@ -31,8 +31,8 @@ four_written u h =
 
 four_pass : (u : ℕ) → u < 65536 → AllPass is_hex (hex_digit (u / 4096) ∷ hex_digit (u / 256 % 16) ∷ hex_digit (u / 16 % 16) ∷ hex_digit (u % 16) ∷ [])
 four_pass u h =
-    let P : ℕ → Type 0 = λ c. IsTrue (is_hex c) in
-    All-cons P _ _ (digit_hex (u / 4096) (omega arith)) (All-cons P _ _ (digit_hex (u / 256 % 16) (omega arith)) (All-cons P _ _ (digit_hex (u / 16 % 16) (omega arith)) (All-cons P _ _ (digit_hex (u % 16) (omega arith)) (All-nil P))))
+    All-from_recursion (λ c. IsTrue (is_hex c)) (hex_digit (u / 4096) ∷ hex_digit (u / 256 % 16) ∷ hex_digit (u / 16 % 16) ∷ hex_digit (u % 16) ∷ [])
+    (digit_hex (u / 4096) (omega arith), (digit_hex (u / 256 % 16) (omega arith), (digit_hex (u / 16 % 16) (omega arith), (digit_hex (u % 16) (omega arith), tt))))
 
 -- A UNIT
 escaped_unit : (u : ℕ) {cs us : List ℕ} → (eqb u 34 || eqb u 92) ≡ true → Inside 34 cs us → Inside 34 (92 ∷ u ∷ cs) (u ∷ us)

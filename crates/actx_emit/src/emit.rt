@@ -54,12 +54,6 @@ fn gap_after(token: &TokenKind, last: bool) -> char
 {
     match token {
         TokenKind::Sign(Sign::Semicolon | Sign::OpenBrace | Sign::CloseBrace) => '\n',
-        _ => {
-            if last {
-                '\n'
-            } else {
-                ' '
-            }
-        }
+        _ => { if last { '\n' } else { ' ' } }
     }
 }

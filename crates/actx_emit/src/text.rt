@@ -33,6 +33,7 @@ fn push_name(text: &mut String, name: &Name) -> Result<(), AllocError>
     Ok(())
 }
 
+#[tactic(auto, using(crate::proofs::Ascii::number_ascii))]
 fn push_number(alloc: Global, text: &mut String, value: u64) -> Result<(), AllocError>
     ensures { OnOk result (string_bytes text.new ≡ string_bytes text.old ++ encode_utf8_all (decimal value)) }
 {
@@ -73,9 +74,10 @@ fn push_unit(text: &mut String, unit: u16) -> Result<(), AllocError>
 
 /// A unit as `\u` and four hexadecimal digits.
 fn push_hex(text: &mut String, unit: u16) -> Result<(), AllocError>
-    ensures { OnOk result (string_bytes text.new ≡ string_bytes text.old ++ 92 ∷ 117 ∷ spec.hex_digit (unit / 4096) ∷ spec.hex_digit (unit / 256 % 16) ∷ spec.hex_digit (unit / 16 % 16) ∷ spec.hex_digit (unit % 16) ∷ []) }
+    ensures { OnOk result (string_bytes text.new ≡ string_bytes text.old ++ encode_utf8_all (92 ∷ 117 ∷ spec.hex_digit (unit / 4096) ∷ spec.hex_digit (unit / 256 % 16) ∷ spec.hex_digit (unit / 16 % 16) ∷ spec.hex_digit (unit % 16) ∷ [])) }
 {
-    text.push_str("\\u")?;
+    text.push('\\')?;
+    text.push('u')?;
     text.push(hex_digit(unit / 4096))?;
     text.push(hex_digit(unit / 256 % 16))?;
     text.push(hex_digit(unit / 16 % 16))?;

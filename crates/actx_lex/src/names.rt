@@ -7,8 +7,8 @@ ghost use Rattle.actx_lex.specs.Lexeme.{Begins};
 
 use super::characters::is_name_part;
 use super::lexeme::Lexeme;
-use actx_ast::name::Name;
 use actx_ast::keywords::keyword_of;
+use actx_ast::name::Name;
 use actx_ast::token::TokenKind;
 use actx_data::NoMemory;
 use std::alloc::Global;
