@@ -68,3 +68,6 @@ pub mod SideSpells
 pub mod SideLaws
 pub mod Deep
 pub mod Parts
+pub mod FormDepths
+pub mod Unwrapped
+pub mod SpellSteps

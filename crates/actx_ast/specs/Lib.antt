@@ -18,3 +18,6 @@ pub mod Nodes
 pub mod Places
 pub mod Static
 pub mod Sides
+pub mod Starts
+pub mod Sizes
+pub mod Unspelled

@@ -192,7 +192,7 @@ fn wrap_stmt(alloc: Global, kind: u32, st: Stmt, e: Expr) -> Result<Stmt, AllocE
 }
 
 /// Expressions in one another, of each kind that goes on in turn.
-fn nest(alloc: Global, depth: u32) -> Result<Expr, AllocError> {
+pub fn nest(alloc: Global, depth: u32) -> Result<Expr, AllocError> {
     let mut e = Expr::Num(1);
     for i in 0..depth {
         e = wrap(alloc, i % 18, e)?;
@@ -201,7 +201,7 @@ fn nest(alloc: Global, depth: u32) -> Result<Expr, AllocError> {
 }
 
 /// Statements in one another, of each kind that goes on in turn.
-fn nest_stmt(alloc: Global, depth: u32) -> Result<Stmt, AllocError> {
+pub fn nest_stmt(alloc: Global, depth: u32) -> Result<Stmt, AllocError> {
     let mut st = Stmt::Break;
     for i in 0..depth {
         let e = wrap(alloc, i, Expr::Truth(true))?;

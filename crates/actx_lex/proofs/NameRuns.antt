@@ -72,12 +72,15 @@ keyword_letters k.Yield = refl
 all_letters : (w : List ℕ) → AllPass is_letter w → AllPass is_name_part w
 all_letters w h = λ k d lt. start_part (get_or w k d) (letter_start (get_or w k d) (h k d lt))
 
+pub keyword_parts : (q : Keyword) → AllPass is_name_part (keyword_text q)
+keyword_parts q = all_letters (keyword_text q) (AllPass-from_list_all is_letter (keyword_text q) (keyword_letters q))
+
 pub name_parts : (x : List ℕ) → IsName x → AllPass is_name_part x
 name_parts x h = subst (AllPass is_name_part) (sym h.is) (All-cons (λ c. IsTrue (is_name_part c)) h.first h.more (start_part h.first h.starts) h.goes_on)
 
 word_reading : (j : TokenKind) (v : List ℕ) → kind_class j ≡ word → Reading j v → AllPass is_name_part v
 word_reading j v e (r_name p h) = name_parts v h
-word_reading j v e (r_keyword q p h) = subst (AllPass is_name_part) (sym h) (all_letters (keyword_text q) (AllPass-from_list_all is_letter (keyword_text q) (keyword_letters q)))
+word_reading j v e (r_keyword q p h) = subst (AllPass is_name_part) (sym h) (keyword_parts q)
 word_reading j v e (r_number p h l) = let f : kind_class (t.Number (digits_value 10 v)) ≡ word = ap kind_class (sym p) ∙ e in cc
 word_reading j v e (r_text q cs u p h g l) = let f : kind_class (t.Text u) ≡ word = ap kind_class (sym p) ∙ e in cc
 word_reading j v e (r_sign s p h) = let f : kind_class (t.Sign s) ≡ word = ap kind_class (sym p) ∙ e in cc

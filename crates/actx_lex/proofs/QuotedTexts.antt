@@ -66,7 +66,7 @@ longest_text q cs us rest h i x y cut some l =
         (once q cs r.chars us r.units x [] h i (subst (λ c. Inside c r.chars r.units) same r.inside) f).2
     no_more (inr (g, n)) = let f = refused_class (q ∷ (cs ++ q ∷ x)) g in let k = quote_first q h in cc
 
-quoted_at : (fresh : Bool) (q : ℕ) (done rest us : List ℕ) → IsQuote q → Inside q done us → Begins fresh (q ∷ (done ++ q ∷ rest)) (t.Text us) (length done + 2)
+pub quoted_at : (fresh : Bool) (q : ℕ) (done rest us : List ℕ) → IsQuote q → Inside q done us → Begins fresh (q ∷ (done ++ q ∷ rest)) (t.Text us) (length done + 2)
 quoted_at fresh q done rest us h i =
     let w : List ℕ = q ∷ (done ++ q ∷ []) in
     let whole : q ∷ (done ++ q ∷ rest) ≡ w ++ rest = ap (λ v. q ∷ v) (sym (append_assoc done (q ∷ []) rest)) in

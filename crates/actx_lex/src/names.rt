@@ -1,69 +1,17 @@
 //! Names and reserved words (ECMA-262, 12.7): `a$` is a name, `const` is none.
 
-ghost use Rattle.std.specs.Prelude.{◌≡◌, ◌≢◌, ◌≤◌, ◌<◌, Bool, ℕ, IsTrue, length, slice_index, IfOk, MatchOption, true, ◌↔◌};
+ghost use Rattle.std.specs.Prelude.{◌≡◌, ◌≤◌, Bool, IsTrue, length, slice_index, IfOk};
 ghost use Rattle.std.specs.List.{prefix_len};
-ghost use Rattle.actx_ast.specs.declared.token.Keyword.{Keyword};
 ghost use Rattle.actx_ast.specs.Words as words;
 ghost use Rattle.actx_lex.specs.Lexeme.{Begins};
 
 use super::characters::is_name_part;
 use super::lexeme::Lexeme;
+use actx_ast::keywords::keyword_of;
 use actx_ast::name::Name;
-use actx_ast::token::{Keyword, TokenKind};
-use actx_ast::words::keyword_text;
+use actx_ast::token::TokenKind;
 use actx_data::NoMemory;
 use std::alloc::Global;
-
-/// The reserved words.
-const KEYWORDS: [Keyword; 47] = [
-    Keyword::Async,
-    Keyword::Await,
-    Keyword::Break,
-    Keyword::Case,
-    Keyword::Catch,
-    Keyword::Class,
-    Keyword::Const,
-    Keyword::Continue,
-    Keyword::Debugger,
-    Keyword::Default,
-    Keyword::Delete,
-    Keyword::Do,
-    Keyword::Else,
-    Keyword::Enum,
-    Keyword::Export,
-    Keyword::Extends,
-    Keyword::False,
-    Keyword::Finally,
-    Keyword::For,
-    Keyword::Function,
-    Keyword::If,
-    Keyword::Implements,
-    Keyword::Import,
-    Keyword::In,
-    Keyword::Instanceof,
-    Keyword::Interface,
-    Keyword::Let,
-    Keyword::New,
-    Keyword::Null,
-    Keyword::Package,
-    Keyword::Private,
-    Keyword::Protected,
-    Keyword::Public,
-    Keyword::Return,
-    Keyword::Static,
-    Keyword::Super,
-    Keyword::Switch,
-    Keyword::This,
-    Keyword::Throw,
-    Keyword::True,
-    Keyword::Try,
-    Keyword::Typeof,
-    Keyword::Var,
-    Keyword::Void,
-    Keyword::While,
-    Keyword::With,
-    Keyword::Yield,
-];
 
 /// The name or reserved word that a text begins with.
 pub fn first_word(alloc: Global, text: &[char]) -> Result<Lexeme, NoMemory>
@@ -91,31 +39,4 @@ fn name_len(text: &[char]) -> usize
         }
     }
     text.len()
-}
-
-/// The reserved word that is written so, or `None` where the word is none.
-fn keyword_of(word: &[char]) -> Option<Keyword>
-    ensures { MatchOption result ((k : Keyword) → word.now ≢ words.keyword_text k) (λ k. word.now ≡ words.keyword_text k) }
-{
-    for keyword in KEYWORDS.iter() {
-        if is_written(keyword_text(*keyword).as_bytes(), word) {
-            return Some(*keyword);
-        }
-    }
-    None
-}
-
-/// Whether the characters are those of an ASCII text.
-fn is_written(text: &[u8], word: &[char]) -> bool
-    ensures { (result ≡ true) ↔ (word.now ≡ text.now) }
-{
-    if text.len() != word.len() {
-        return false;
-    }
-    for (i, c) in word.iter().enumerate() {
-        if *c != char::from(text[i]) {
-            return false;
-        }
-    }
-    true
 }

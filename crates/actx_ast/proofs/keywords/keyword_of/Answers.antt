@@ -3,9 +3,9 @@ use Rattle.std.proofs.lemmas.Bool.{cases_lt, iff_false}
 use Rattle.std.proofs.lemmas.List.{get_or_default}
 use Rattle.actx_ast.specs.declared.token.Keyword.{Keyword}
 use Rattle.actx_ast.specs.declared.token.Keyword.TheVariants as key
-use Rattle.actx_lex.specs.declared.names.TheConstants.{KEYWORDS}
+use Rattle.actx_ast.specs.declared.keywords.TheConstants.{KEYWORDS}
 use Rattle.actx_ast.specs.Words.{keyword_text}
-use Rattle.actx_lex.proofs.names.keyword_of.Goals as goal
+use Rattle.actx_ast.proofs.keywords.keyword_of.Goals as goal
 
 -- where a reserved word stands in the table
 place : (q : Keyword) → (i : ℕ) × (i < 47) × (get_or KEYWORDS i q ≡ q)
