@@ -3,21 +3,21 @@
 use Rattle.std.proofs.Common.{◌≡◌, ℕ, suc, List, [], ◌∷◌, ◌++◌, false, refl, sym, ap, subst, lit≤}
 use Rattle.std.specs.Prelude.{Contains}
 use Rattle.std.proofs.lemmas.List.Elements.{All-contains, All-from_recursion}
-use Rattle.actx_small.specs.declared.side.Side.TheVariants.{Source, Plain}
-use Rattle.actx_small.specs.declared.token.Sign.TheVariants as s
-use Rattle.actx_small.specs.declared.token.TokenKind.{TokenKind}
-use Rattle.actx_small.specs.declared.token.TokenKind.TheVariants as t
-use Rattle.actx_small.specs.declared.tree.BinaryOp.{BinaryOp}
-use Rattle.actx_small.specs.declared.tree.BinaryOp.TheVariants as o
-use Rattle.actx_small.specs.declared.tree.Form.TheVariants.{Log, NewVariable, NewWeakMap, Freeze, CallWith, Note}
-use Rattle.actx_small.specs.Lexical.{IsName}
-use Rattle.actx_small.specs.Tree.{Expr, Num, Text, Undefined, This, Named, Binary, Member, SetMember, Call, Object, Function, Built, Exprs, none, also, Properties, no_properties, property, Items, no_items, item, Stmt, Stmts}
-use Rattle.actx_small.specs.Grammar.{IsKey, StartsStatement, StartsBody, with_last, with_item, with_property, SpellsNames, sp_one_name, sp_more_names, SpellsParams, sp_no_params, sp_params, sp_params_comma, SpellsArrowParams, sp_bare_param, sp_listed_params, Spells, sp_number, sp_text, sp_undefined, sp_this, sp_name, sp_paren, sp_binary, sp_member, sp_set_member, sp_call, words_log, sp_form, sp_call_with, sp_object, sp_arrow, sp_short_arrow, sp_function, SpellsArguments, sp_no_arguments, sp_arguments, sp_arguments_comma, SpellsList, sp_one, sp_more, SpellsProperty, sp_key, sp_name_alone, sp_undefined_alone, SpellsProperties, sp_no_properties, sp_properties, sp_properties_comma, SpellsSome, sp_one_property, sp_more_properties, SpellsItems, sp_item, sp_items, SpellsStmt, sp_const, sp_value, sp_return, sp_return_nothing, sp_block, sp_if, sp_try, SpellsStmts, sp_end, sp_next}
-use Rattle.actx_small.specs.Parser.{is_call}
-use Rattle.actx_small.specs.Static.{IsTakenExpr, AreTaken, PropertiesTaken, ItemsTaken, IsTakenStmt, IsTaken, member_names}
-use Rattle.actx_small.proofs.ParseDeeper.{deeper_stmts}
-use Rattle.actx_small.proofs.ParseNames.{binding_is}
-use Rattle.actx_small.proofs.ParseTests.{reference_is, key_is}
+use Rattle.actx_parse.specs.declared.side.Side.TheVariants.{Source, Plain}
+use Rattle.actx_parse.specs.declared.token.Sign.TheVariants as s
+use Rattle.actx_parse.specs.declared.token.TokenKind.{TokenKind}
+use Rattle.actx_parse.specs.declared.token.TokenKind.TheVariants as t
+use Rattle.actx_parse.specs.declared.tree.BinaryOp.{BinaryOp}
+use Rattle.actx_parse.specs.declared.tree.BinaryOp.TheVariants as o
+use Rattle.actx_parse.specs.declared.tree.Form.TheVariants.{Log, NewVariable, NewWeakMap, Freeze, CallWith, Note}
+use Rattle.actx_parse.specs.Lexical.{IsName}
+use Rattle.actx_parse.specs.Tree.{Expr, Num, Text, Undefined, This, Named, Binary, Member, SetMember, Call, Object, Function, Built, Exprs, none, also, Properties, no_properties, property, Items, no_items, item, Stmt, Stmts}
+use Rattle.actx_parse.specs.Grammar.{IsKey, StartsStatement, StartsBody, with_last, with_item, with_property, SpellsNames, sp_one_name, sp_more_names, SpellsParams, sp_no_params, sp_params, sp_params_comma, SpellsArrowParams, sp_bare_param, sp_listed_params, Spells, sp_number, sp_text, sp_undefined, sp_this, sp_name, sp_paren, sp_binary, sp_member, sp_set_member, sp_call, words_log, sp_form, sp_call_with, sp_object, sp_arrow, sp_short_arrow, sp_function, SpellsArguments, sp_no_arguments, sp_arguments, sp_arguments_comma, SpellsList, sp_one, sp_more, SpellsProperty, sp_key, sp_name_alone, sp_undefined_alone, SpellsProperties, sp_no_properties, sp_properties, sp_properties_comma, SpellsSome, sp_one_property, sp_more_properties, SpellsItems, sp_item, sp_items, SpellsStmt, sp_const, sp_value, sp_return, sp_return_nothing, sp_block, sp_if, sp_try, SpellsStmts, sp_end, sp_next}
+use Rattle.actx_parse.specs.Parser.{is_call}
+use Rattle.actx_parse.specs.Static.{IsTakenExpr, AreTaken, PropertiesTaken, ItemsTaken, IsTakenStmt, IsTaken, member_names}
+use Rattle.actx_parse.proofs.ParseDeeper.{deeper_stmts}
+use Rattle.actx_parse.proofs.ParseNames.{binding_is}
+use Rattle.actx_parse.proofs.ParseTests.{reference_is, key_is}
 use Rattle.actx_top.specs.Prelude.{name_variable}
 use Rattle.actx_top.specs.Low.{p_, names_renamed, renamed, all_renamed, properties_renamed, items_renamed, stmt_renamed, program_renamed, followed_by, low}
 use Rattle.actx_top.proofs.EmittedNames.{binding_renamed, reference_renamed}

@@ -3,14 +3,14 @@ use Rattle.std.proofs.Common.{◌≡◌, ◌≢◌, ℕ, List, [], ◌∷◌, Bo
 use Rattle.std.specs.Prelude.{◌&&◌, ◌||◌, IsTrue, All}
 use Rattle.std.specs.List.{AllByRecursion}
 use Rattle.std.proofs.lemmas.List.Elements.{All-cons}
-use Rattle.actx_small.specs.declared.side.Side.TheVariants.{Source, Plain}
-use Rattle.actx_small.specs.declared.token.Keyword.{Keyword}
-use Rattle.actx_small.specs.declared.token.Keyword.TheVariants as k
-use Rattle.actx_small.specs.Lexical.{IsName, is_name_part, is_name_start, is_digit, keyword_text}
-use Rattle.actx_small.specs.Grammar.{IsBinding, IsReference}
-use Rattle.actx_small.specs.Parser.{is_one_of}
-use Rattle.actx_small.proofs.ParseNames.{binding_is}
-use Rattle.actx_small.proofs.ParseTests.{and_left, and_right, reference_is}
+use Rattle.actx_parse.specs.declared.side.Side.TheVariants.{Source, Plain}
+use Rattle.actx_parse.specs.declared.token.Keyword.{Keyword}
+use Rattle.actx_parse.specs.declared.token.Keyword.TheVariants as k
+use Rattle.actx_parse.specs.Lexical.{IsName, is_name_part, is_name_start, is_digit, keyword_text}
+use Rattle.actx_parse.specs.Grammar.{IsBinding, IsReference}
+use Rattle.actx_parse.specs.Parser.{is_one_of}
+use Rattle.actx_parse.proofs.ParseNames.{binding_is}
+use Rattle.actx_parse.proofs.ParseTests.{and_left, and_right, reference_is}
 use Rattle.actx_top.specs.Low.{p_}
 
 -- TESTS OF NAMES

@@ -4,15 +4,15 @@ use Rattle.std.specs.Prelude.{◌&&◌, nat_le, IsTrue}
 use Rattle.std.specs.List.{AllByRecursion}
 use Rattle.std.proofs.lemmas.Bool.Decides.{nat_tests}
 use Rattle.std.proofs.lemmas.List.Elements.{All-from_recursion}
-use Rattle.actx_small.specs.declared.side.Side.TheVariants.{Plain}
-use Rattle.actx_small.specs.declared.token.TokenKind.{TokenKind}
-use Rattle.actx_small.specs.declared.token.TokenKind.TheVariants as t
-use Rattle.actx_small.specs.Lexical.{IsName, is_name_part, is_name_start, is_text_char, greatest_number, HasForm}
-use Rattle.actx_small.specs.Grammar.{IsSpelled}
-use Rattle.actx_small.specs.Parser.{parse}
-use Rattle.actx_small.specs.Spell.{spell_program}
-use Rattle.actx_small.proofs.ParseTests.{and_left, and_right}
-use Rattle.actx_small.proofs.ParseSound.{sound}
+use Rattle.actx_parse.specs.declared.side.Side.TheVariants.{Plain}
+use Rattle.actx_parse.specs.declared.token.TokenKind.{TokenKind}
+use Rattle.actx_parse.specs.declared.token.TokenKind.TheVariants as t
+use Rattle.actx_parse.specs.Lexical.{IsName, is_name_part, is_name_start, is_text_char, greatest_number, HasForm}
+use Rattle.actx_parse.specs.Grammar.{IsSpelled}
+use Rattle.actx_parse.specs.Parser.{parse}
+use Rattle.actx_parse.specs.Spell.{spell_program}
+use Rattle.actx_parse.proofs.ParseTests.{and_left, and_right}
+use Rattle.actx_parse.proofs.ParseSound.{sound}
 use Rattle.actx_top.proofs.EmittedNames.{all_pass, passes, is_free, is_name, no_reserved}
 use Rattle.actx_top.specs.Prelude.{prelude}
 

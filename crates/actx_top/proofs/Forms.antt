@@ -2,13 +2,13 @@
 use Rattle.std.proofs.Common.{◌≡◌, suc, length, List, [], ◌∷◌, Some, None, Bool, true, false, refl, ap, if◌then◌else◌}
 use Rattle.std.specs.Prelude.{◌&&◌}
 use Rattle.actx_data.specs.declared.end.End.TheVariants.{Left}
-use Rattle.actx_small.specs.declared.side.Side.TheVariants.{Plain}
-use Rattle.actx_small.specs.declared.tree.Expr.{Expr}
-use Rattle.actx_small.specs.declared.tree.Form.{Form}
-use Rattle.actx_small.specs.Grammar.{count}
-use Rattle.actx_small.specs.Parser.{suits}
-use Rattle.actx_small.specs.Tree.{Exprs}
-use Rattle.actx_small.specs.View.{exprs_view}
+use Rattle.actx_parse.specs.declared.side.Side.TheVariants.{Plain}
+use Rattle.actx_parse.specs.declared.tree.Expr.{Expr}
+use Rattle.actx_parse.specs.declared.tree.Form.{Form}
+use Rattle.actx_parse.specs.Grammar.{count}
+use Rattle.actx_parse.specs.Parser.{suits}
+use Rattle.actx_parse.specs.Tree.{Exprs}
+use Rattle.actx_parse.specs.View.{exprs_view}
 use Rattle.actx_top.specs.Machine.{has_form, eval_form, eval_parts}
 use Rattle.actx_top.specs.MachineView.{form_of}
 use Rattle.actx_top.specs.State as m

@@ -1,11 +1,11 @@
 -- Lists of the code's trees that are renamed one by one.
 use Rattle.std.proofs.Common.{◌≡◌, List, [], ◌∷◌, ◌++◌, map, refl, ap}
-use Rattle.actx_small.specs.Tree as t
-use Rattle.actx_small.specs.View.{expr_view, exprs_of, exprs_view, item_view, items_of, items_view, property_view, properties_of, properties_view, stmt_view, stmts_of, stmts_view}
-use Rattle.actx_small.specs.declared.tree.Expr.{Expr}
-use Rattle.actx_small.specs.declared.tree.ConstItem.{ConstItem}
-use Rattle.actx_small.specs.declared.tree.Property.{Property}
-use Rattle.actx_small.specs.declared.tree.Stmt.{Stmt}
+use Rattle.actx_parse.specs.Tree as t
+use Rattle.actx_parse.specs.View.{expr_view, exprs_of, exprs_view, item_view, items_of, items_view, property_view, properties_of, properties_view, stmt_view, stmts_of, stmts_view}
+use Rattle.actx_parse.specs.declared.tree.Expr.{Expr}
+use Rattle.actx_parse.specs.declared.tree.ConstItem.{ConstItem}
+use Rattle.actx_parse.specs.declared.tree.Property.{Property}
+use Rattle.actx_parse.specs.declared.tree.Stmt.{Stmt}
 use Rattle.actx_top.specs.Low.{p_, renamed, all_renamed, properties_renamed, items_renamed, stmt_renamed, program_renamed, followed_by}
 
 pub exprs_each : (es : List Expr) → exprs_of (map (λ e. renamed (expr_view e)) es) ≡ all_renamed (exprs_view es)

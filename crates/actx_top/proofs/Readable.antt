@@ -1,10 +1,10 @@
 -- The emitted text parses to the emitted program, and so the headline.
 use Rattle.std.proofs.Common.{List, ℕ, refl}
-use Rattle.actx_small.specs.Accepts.{Accepts, ReadsPlain}
-use Rattle.actx_small.specs.Lexical.{kinds_of}
-use Rattle.actx_small.specs.Tree.{Stmts}
-use Rattle.actx_small.proofs.LayoutSteady.{printed_plain}
-use Rattle.actx_small.proofs.SpellAll.{program_again, program_formed}
+use Rattle.actx_parse.specs.Accepts.{Accepts, ReadsPlain}
+use Rattle.actx_parse.specs.Lexical.{kinds_of}
+use Rattle.actx_parse.specs.Tree.{Stmts}
+use Rattle.actx_parse.proofs.LayoutSteady.{printed_plain}
+use Rattle.actx_parse.proofs.SpellAll.{program_again, program_formed}
 use Rattle.actx_top.specs.Headline.{emitted, Headline}
 use Rattle.actx_top.specs.Low.{low}
 use Rattle.actx_top.proofs.Emitted.{low_spelled}

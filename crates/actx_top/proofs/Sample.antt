@@ -6,11 +6,11 @@ use Rattle.actx_data.specs.declared.shown.Shown.TheVariants as h
 use Rattle.actx_data.specs.declared.shown.ErrorName.TheVariants.{TypeError}
 use Rattle.actx_data.specs.declared.trace.TraceEvent.{TraceEvent}
 use Rattle.actx_data.specs.declared.trace.TraceEvent.TheVariants as e
-use Rattle.actx_small.specs.declared.side.Side.{Side}
-use Rattle.actx_small.specs.declared.side.Side.TheVariants.{Source, Plain}
-use Rattle.actx_small.specs.declared.tree.Form.TheVariants.{Log, NewVariable}
-use Rattle.actx_small.specs.declared.tree.FunctionKind.TheVariants.{Arrow}
-use Rattle.actx_small.specs.Tree.{Expr, Num, Text, Named, Member, Call, Object, Function, Built, none, also, property, no_properties, item, no_items, Stmt, Const, Value, Return, Stmts, end, next}
+use Rattle.actx_parse.specs.declared.side.Side.{Side}
+use Rattle.actx_parse.specs.declared.side.Side.TheVariants.{Source, Plain}
+use Rattle.actx_parse.specs.declared.tree.Form.TheVariants.{Log, NewVariable}
+use Rattle.actx_parse.specs.declared.tree.FunctionKind.TheVariants.{Arrow}
+use Rattle.actx_parse.specs.Tree.{Expr, Num, Text, Named, Member, Call, Object, Function, Built, none, also, property, no_properties, item, no_items, Stmt, Const, Value, Return, Stmts, end, next}
 use Rattle.actx_top.specs.State.{Task, ExecList, Frame, Store, State, Move, Goes, Writes, Stops}
 use Rattle.actx_top.specs.Machine.{row, at, stopped, no_store, first_heap}
 use Rattle.actx_top.specs.Low.{low}

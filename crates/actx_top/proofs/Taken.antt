@@ -1,8 +1,8 @@
 -- A text of which a byte more than it may have was read.
 use Rattle.std.proofs.Common.{◌≡◌, ℕ, List, take, subst, arith}
 use Rattle.std.proofs.lemmas.List.{take_all, length-take}
-use Rattle.actx_small.specs.Accepts.{Accepts}
-use Rattle.actx_small.specs.Tree.{Stmts}
+use Rattle.actx_parse.specs.Accepts.{Accepts}
+use Rattle.actx_parse.specs.Tree.{Stmts}
 
 -- what is read of a program is all of it
 pub accepted_whole : (read : ℕ) (bytes : List ℕ) (p : Stmts) → read ≡ 1048577 → Accepts bytes p → take read bytes ≡ bytes

@@ -11,8 +11,8 @@ use Rattle.actx_data.specs.declared.end.End.TheVariants.{Going, Ended, Threw, Le
 use Rattle.actx_data.specs.declared.shown.Shown.{Shown}
 use Rattle.actx_data.specs.declared.shown.Shown.TheVariants as h
 use Rattle.actx_data.specs.declared.trace.TraceEvent.{TraceEvent}
-use Rattle.actx_small.specs.Lexical.{same_text}
-use Rattle.actx_small.specs.Tree.{Stmts}
+use Rattle.actx_parse.specs.Lexical.{same_text}
+use Rattle.actx_parse.specs.Tree.{Stmts}
 use Rattle.actx_top.specs.Low.{low}
 use Rattle.actx_top.specs.Operators.{truth_text}
 use Rattle.actx_top.specs.Properties.{error_text}

@@ -4,10 +4,10 @@
 -- trace (the lines printed and the values read from variables) and the same end (going, ended, threw or left the
 -- profile).
 use Rattle.std.specs.Prelude.{ℕ, List}
-use Rattle.actx_small.specs.Accepts.{Accepts, ReadsPlain}
-use Rattle.actx_small.specs.Layout.{layout}
-use Rattle.actx_small.specs.Spell.{spell_program}
-use Rattle.actx_small.specs.Tree.{Stmts}
+use Rattle.actx_parse.specs.Accepts.{Accepts, ReadsPlain}
+use Rattle.actx_parse.specs.Layout.{layout}
+use Rattle.actx_parse.specs.Spell.{spell_program}
+use Rattle.actx_parse.specs.Tree.{Stmts}
 use Rattle.actx_top.specs.Low.{low, OwnPart}
 use Rattle.actx_top.specs.Meaning.{Same}
 

@@ -1,8 +1,8 @@
 -- The program that is emitted: the prelude, and then the program with its names renamed and its forms as calls of the prelude.
 use Rattle.std.specs.Prelude.{◌≡◌, ℕ, List, [], ◌∷◌}
-use Rattle.actx_small.specs.declared.tree.Form.{Form}
-use Rattle.actx_small.specs.declared.tree.Form.TheVariants.{NewVariable}
-use Rattle.actx_small.specs.Tree.{Expr, Num, Text, Undefined, This, Named, Binary, Member, SetMember, Call, Object, Function, Built, Exprs, none, also, Properties, no_properties, property, Items, no_items, item, Stmt, Const, Value, Return, ReturnNothing, Block, If, Try, Stmts, end, next}
+use Rattle.actx_parse.specs.declared.tree.Form.{Form}
+use Rattle.actx_parse.specs.declared.tree.Form.TheVariants.{NewVariable}
+use Rattle.actx_parse.specs.Tree.{Expr, Num, Text, Undefined, This, Named, Binary, Member, SetMember, Call, Object, Function, Built, Exprs, none, also, Properties, no_properties, property, Items, no_items, item, Stmt, Const, Value, Return, ReturnNothing, Block, If, Try, Stmts, end, next}
 use Rattle.actx_top.specs.Prelude.{prelude, name_variable}
 
 -- a name of the program is emitted with p_ before it

@@ -10,17 +10,17 @@ use Rattle.actx_data.specs.declared.trace.TraceEvent.{TraceEvent}
 use Rattle.actx_data.specs.declared.trace.TraceEvent.TheVariants.{Out, Get}
 use Rattle.actx_data.specs.declared.value.Value.{Value}
 use Rattle.actx_data.specs.declared.value.Value.TheVariants as v
-use Rattle.actx_small.specs.declared.side.Side.{Side}
-use Rattle.actx_small.specs.declared.side.Side.TheVariants as side
-use Rattle.actx_small.specs.declared.tree.BinaryOp.{BinaryOp}
-use Rattle.actx_small.specs.declared.tree.Form.{Form}
-use Rattle.actx_small.specs.declared.tree.Form.TheVariants.{Log, NewVariable, NewWeakMap, Freeze, CallWith, Note}
-use Rattle.actx_small.specs.declared.tree.FunctionKind.{FunctionKind}
-use Rattle.actx_small.specs.declared.tree.FunctionKind.TheVariants.{Normal as normal_kind, Arrow as arrow_kind}
-use Rattle.actx_small.specs.Grammar.{count}
-use Rattle.actx_small.specs.Parser.{suits}
-use Rattle.actx_small.specs.Tree as t
-use Rattle.actx_small.specs.Tree.{Expr, Exprs, Properties, Items, Stmt, Stmts}
+use Rattle.actx_parse.specs.declared.side.Side.{Side}
+use Rattle.actx_parse.specs.declared.side.Side.TheVariants as side
+use Rattle.actx_parse.specs.declared.tree.BinaryOp.{BinaryOp}
+use Rattle.actx_parse.specs.declared.tree.Form.{Form}
+use Rattle.actx_parse.specs.declared.tree.Form.TheVariants.{Log, NewVariable, NewWeakMap, Freeze, CallWith, Note}
+use Rattle.actx_parse.specs.declared.tree.FunctionKind.{FunctionKind}
+use Rattle.actx_parse.specs.declared.tree.FunctionKind.TheVariants.{Normal as normal_kind, Arrow as arrow_kind}
+use Rattle.actx_parse.specs.Grammar.{count}
+use Rattle.actx_parse.specs.Parser.{suits}
+use Rattle.actx_parse.specs.Tree as t
+use Rattle.actx_parse.specs.Tree.{Expr, Exprs, Properties, Items, Stmt, Stmts}
 use Rattle.actx_top.specs.Operators.{Answer, Gives, Throws, Leaves, binary, is_true}
 use Rattle.actx_top.specs.Printing.{line_of, is_line}
 use Rattle.actx_top.specs.Agent.{mapped_or, with_mapped, this_variable, variable_props}

@@ -2,10 +2,10 @@
 use Rattle.std.specs.Prelude.{List, [], map, reverse}
 use Rattle.actx_data.specs.declared.end.End.{End}
 use Rattle.actx_data.specs.declared.end.End.TheVariants.{Going}
-use Rattle.actx_small.specs.declared.tree.Form.{Form}
-use Rattle.actx_small.specs.declared.tree.Form.TheVariants as form
-use Rattle.actx_small.specs.Tree.{Exprs, also, none, Block}
-use Rattle.actx_small.specs.View.{expr_view, exprs_view, items_view, properties_view, stmt_view, stmts_view}
+use Rattle.actx_parse.specs.declared.tree.Form.{Form}
+use Rattle.actx_parse.specs.declared.tree.Form.TheVariants as form
+use Rattle.actx_parse.specs.Tree.{Exprs, also, none, Block}
+use Rattle.actx_parse.specs.View.{expr_view, exprs_view, items_view, properties_view, stmt_view, stmts_view}
 use Rattle.actx_top.specs.Chains.{chain_of}
 use Rattle.actx_top.specs.Machine.{at, stopped, keys_of, values_of}
 use Rattle.actx_top.specs.State as m

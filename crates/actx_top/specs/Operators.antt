@@ -7,9 +7,9 @@ use Rattle.actx_data.specs.Units.{joined}
 use Rattle.actx_data.specs.declared.shown.ErrorName.{ErrorName}
 use Rattle.actx_data.specs.declared.value.Value.{Value}
 use Rattle.actx_data.specs.declared.value.Value.TheVariants as v
-use Rattle.actx_small.specs.Lexical.{same_text}
-use Rattle.actx_small.specs.declared.tree.BinaryOp.{BinaryOp}
-use Rattle.actx_small.specs.declared.tree.BinaryOp.TheVariants as o
+use Rattle.actx_parse.specs.Lexical.{same_text}
+use Rattle.actx_parse.specs.declared.tree.BinaryOp.{BinaryOp}
+use Rattle.actx_parse.specs.declared.tree.BinaryOp.TheVariants as o
 
 -- the answer of an operation: a value, an error that is thrown, or that the run leaves the profile
 pub data Answer : Type 0 where

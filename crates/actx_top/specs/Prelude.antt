@@ -52,10 +52,10 @@
 -- A mapping is a list of frozen objects, one a variable, whose last one's rest is undefined. What is no variable has no
 -- state, and reading its number throws TypeError. A name that is no text has no length: the read leaves the profile.
 use Rattle.std.specs.Prelude.{ℕ, List, [], ◌∷◌, codes}
-use Rattle.actx_small.specs.declared.tree.BinaryOp.TheVariants.{Add, Same}
-use Rattle.actx_small.specs.declared.tree.Form.TheVariants.{NewWeakMap, Freeze, CallWith, Note}
-use Rattle.actx_small.specs.declared.tree.FunctionKind.TheVariants.{Normal, Arrow}
-use Rattle.actx_small.specs.Tree.{Expr, Num, Text, Undefined, This, Named, Binary, Member, SetMember, Call, Object, Function, Built, Exprs, none, also, Properties, no_properties, property, no_items, item, Stmt, Const, Value, Return, If, Try, Stmts, end, next}
+use Rattle.actx_parse.specs.declared.tree.BinaryOp.TheVariants.{Add, Same}
+use Rattle.actx_parse.specs.declared.tree.Form.TheVariants.{NewWeakMap, Freeze, CallWith, Note}
+use Rattle.actx_parse.specs.declared.tree.FunctionKind.TheVariants.{Normal, Arrow}
+use Rattle.actx_parse.specs.Tree.{Expr, Num, Text, Undefined, This, Named, Binary, Member, SetMember, Call, Object, Function, Built, Exprs, none, also, Properties, no_properties, property, no_items, item, Stmt, Const, Value, Return, If, Try, Stmts, end, next}
 
 -- NAMES
 abbrev pub name_states : List ℕ

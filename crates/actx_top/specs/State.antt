@@ -6,12 +6,12 @@ use Rattle.actx_data.specs.declared.shown.ErrorName.{ErrorName}
 use Rattle.actx_data.specs.declared.trace.TraceEvent.{TraceEvent}
 use Rattle.actx_data.specs.declared.value.Value.{Value}
 use Rattle.actx_data.specs.declared.value.Value.TheVariants as v
-use Rattle.actx_small.specs.declared.tree.BinaryOp.{BinaryOp}
-use Rattle.actx_small.specs.declared.tree.Form.{Form}
-use Rattle.actx_small.specs.declared.tree.FunctionKind.{FunctionKind}
-use Rattle.actx_small.specs.Lexical.{same_text}
-use Rattle.actx_small.specs.Tree as t
-use Rattle.actx_small.specs.Tree.{Expr, Exprs, Items, Stmt, Stmts}
+use Rattle.actx_parse.specs.declared.tree.BinaryOp.{BinaryOp}
+use Rattle.actx_parse.specs.declared.tree.Form.{Form}
+use Rattle.actx_parse.specs.declared.tree.FunctionKind.{FunctionKind}
+use Rattle.actx_parse.specs.Lexical.{same_text}
+use Rattle.actx_parse.specs.Tree as t
+use Rattle.actx_parse.specs.Tree.{Expr, Exprs, Items, Stmt, Stmts}
 
 -- COMPLETIONS (6.2.4): how the work on a part ended
 pub data Completion : Type 0 where

@@ -3,9 +3,9 @@
 use Rattle.std.specs.Prelude.{ℕ, suc, ◌+◌, List, ◌∷◌, length}
 use Rattle.actx_match.specs.Runs.{cost}
 use Rattle.actx_data.specs.declared.event.Event.{Event}
-use Rattle.actx_small.specs.declared.side.Side.TheVariants.{Source}
-use Rattle.actx_small.specs.Tree as t
-use Rattle.actx_small.specs.Tree.{Expr, Exprs, Properties, Items, Stmt, Stmts}
+use Rattle.actx_parse.specs.declared.side.Side.TheVariants.{Source}
+use Rattle.actx_parse.specs.Tree as t
+use Rattle.actx_parse.specs.Tree.{Expr, Exprs, Properties, Items, Stmt, Stmts}
 use Rattle.actx_top.specs.State.{Throw, Task, Eval, Exec, ExecList, ExecBody, Given, Done, Call, Frame, Pending, Store, Now, Doing, Over, State}
 use Rattle.actx_top.specs.Machine.{step, start}
 

@@ -1,9 +1,9 @@
 //! Runs of accepted programs: a program is lowered, printed, parsed again, and what was parsed is run.
 
 ghost use Rattle.std.specs.Prelude.{◌≡◌, [], ℕ, List, IfOk};
-ghost use Rattle.actx_small.specs.Accepts.{Accepts, ReadsPlain};
-ghost use Rattle.actx_small.specs.Tree.{Stmts};
-ghost use Rattle.actx_small.specs.View.{program_view};
+ghost use Rattle.actx_parse.specs.Accepts.{Accepts, ReadsPlain};
+ghost use Rattle.actx_parse.specs.Tree.{Stmts};
+ghost use Rattle.actx_parse.specs.View.{program_view};
 ghost use Rattle.actx_top.specs.Answers.{most_steps, run_shows};
 ghost use Rattle.actx_top.specs.Ending.{Ends};
 ghost use Rattle.actx_top.specs.Headline.{emitted};
@@ -13,10 +13,10 @@ use crate::lower::lower;
 use crate::machine::Target;
 use crate::render::render;
 use actx_data::{End, NoMemory, Twin};
-use actx_small::emit::emit;
-use actx_small::read::{ReadFault, read_plain};
-use actx_small::spell::spell;
-use actx_small::tree::Program;
+use actx_parse::emit::emit;
+use actx_parse::read::{ReadFault, read_plain};
+use actx_parse::spell::spell;
+use actx_parse::tree::Program;
 use std::alloc::Global;
 
 /// What a run has printed, and where it stands.

@@ -7,7 +7,7 @@ ghost use Rattle.std.specs.Cmp.Lexicographic.{pointwise};
 ghost use Rattle.std.specs.Hash as fed;
 
 use actx_data::{NoMemory, Units};
-use actx_small::name::Name;
+use actx_parse::name::Name;
 use std::alloc::Global;
 use std::hash::{Hash, Hasher};
 use std::marker::Model;

@@ -2,11 +2,11 @@
 
 ghost use Rattle.std.specs.Prelude.{ℕ, List};
 ghost use Rattle.actx_data.specs.declared.event.Event.{Event};
-ghost use Rattle.actx_small.specs.declared.token.TokenKind.{TokenKind};
-ghost use Rattle.actx_small.specs.declared.side.Side.TheVariants.{Source, Plain};
-ghost use Rattle.actx_small.specs.Grammar.{SpellsStmts};
-ghost use Rattle.actx_small.specs.Static.{IsTaken};
-ghost use Rattle.actx_small.specs.Tree.{Stmts};
+ghost use Rattle.actx_parse.specs.declared.token.TokenKind.{TokenKind};
+ghost use Rattle.actx_parse.specs.declared.side.Side.TheVariants.{Source, Plain};
+ghost use Rattle.actx_parse.specs.Grammar.{SpellsStmts};
+ghost use Rattle.actx_parse.specs.Static.{IsTaken};
+ghost use Rattle.actx_parse.specs.Tree.{Stmts};
 ghost use Rattle.actx_match.specs.Matching.{WithinFactor};
 ghost use Rattle.actx_top.specs.Laws.{Laws};
 ghost use Rattle.actx_top.specs.Weight.{source_cost};

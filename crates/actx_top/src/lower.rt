@@ -1,15 +1,15 @@
 //! The lowering: the prelude, and behind it the program with its names renamed, as `const p_a = 1;` of `const a = 1;`.
 
 ghost use Rattle.std.specs.Prelude.{◌≡◌, IfOk, option_map};
-ghost use Rattle.actx_small.specs.View.{expr_view, returned, exprs_view, item_view, items_view, function_view, property_view, properties_view, stmt_view, stmts_view, program_view};
-ghost use Rattle.actx_small.specs.Tree.{Named};
+ghost use Rattle.actx_parse.specs.View.{expr_view, returned, exprs_view, item_view, items_view, function_view, property_view, properties_view, stmt_view, stmts_view, program_view};
+ghost use Rattle.actx_parse.specs.Tree.{Named};
 ghost use Rattle.actx_top.specs.Prelude.{name_variable};
 ghost use Rattle.actx_top.specs.Low.{p_, names_renamed, form_emitted, renamed, all_renamed, properties_renamed, items_renamed, stmt_renamed, program_renamed, low};
 
 use crate::prelude::prelude;
 use actx_data::{NoMemory, Twin};
-use actx_small::name::Name;
-use actx_small::tree::{ConstItem, Expr, Form, Function, Program, Property, Stmt};
+use actx_parse::name::Name;
+use actx_parse::tree::{ConstItem, Expr, Form, Function, Program, Property, Stmt};
 use std::alloc::Global;
 
 /// A name of the program as it is emitted: with `p_` before it.

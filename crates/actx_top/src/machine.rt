@@ -1,8 +1,8 @@
 //! The machine that runs a plain program, one row of the step table a step.
 
 ghost use Rattle.std.specs.Prelude.{◌≡◌, [], IfOk, reverse};
-ghost use Rattle.actx_small.specs.declared.side.Side.TheVariants.{Plain};
-ghost use Rattle.actx_small.specs.View.{stmts_view};
+ghost use Rattle.actx_parse.specs.declared.side.Side.TheVariants.{Plain};
+ghost use Rattle.actx_parse.specs.View.{stmts_view};
 ghost use Rattle.actx_top.specs.Machine.{start, first_heap};
 ghost use Rattle.actx_top.specs.MachineView.{state_of};
 ghost use Rattle.actx_top.specs.ThingView.{things_of};
@@ -23,8 +23,8 @@ use crate::shown::ShownThings;
 use crate::sound::Sound;
 use crate::thing::{Method, Thing};
 use actx_data::{End, Event, NoMemory, TraceEvent};
-use actx_small::name::Name;
-use actx_small::tree::{BinaryOp, ConstItem, Expr, Property, Stmt};
+use actx_parse::name::Name;
+use actx_parse::tree::{BinaryOp, ConstItem, Expr, Property, Stmt};
 use std::alloc::Global;
 
 /// How the work on a part ended.

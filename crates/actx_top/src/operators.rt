@@ -9,7 +9,7 @@ ghost use Rattle.actx_top.specs.View.{answer_view};
 
 use crate::sound::Sound;
 use actx_data::{ErrorName, NoMemory, Twin, Units, Value, add, join, mul, number_text, sub};
-use actx_small::tree::BinaryOp;
+use actx_parse::tree::BinaryOp;
 use std::alloc::Global;
 
 /// The answer of an operation.

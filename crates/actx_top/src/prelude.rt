@@ -1,16 +1,16 @@
 //! The prelude that stands before every emitted program, as a tree; its text and what each function does stand in specs.
 
 ghost use Rattle.std.specs.Prelude.{◌≡◌, IfOk, [], ◌∷◌, codes};
-ghost use Rattle.actx_small.specs.Tree as t;
-ghost use Rattle.actx_small.specs.View.{expr_view, exprs_view, stmt_view, stmts_view};
+ghost use Rattle.actx_parse.specs.Tree as t;
+ghost use Rattle.actx_parse.specs.View.{expr_view, exprs_view, stmt_view, stmts_view};
 ghost use Rattle.actx_top.specs.Prelude as spec;
 
 mod functions;
 mod shapes;
 
 use actx_data::{NoMemory, Units};
-use actx_small::name::Name;
-use actx_small::tree::{Expr, Form, Function, FunctionKind, Stmt};
+use actx_parse::name::Name;
+use actx_parse::tree::{Expr, Form, Function, FunctionKind, Stmt};
 use functions::{find_body, get_body, make_body, run_body, variable_body, with_body};
 use shapes::{and_name, both, constant, property, then, units};
 use std::alloc::Global;

@@ -13,7 +13,7 @@ use crate::table::Table;
 use crate::thing::Thing;
 use crate::word::{is_inherited, is_word};
 use actx_data::{ErrorName, NoMemory, Twin, Units, Value};
-use actx_small::name::Name;
+use actx_parse::name::Name;
 use std::alloc::Global;
 
 /// The greatest number of the profile.

@@ -5,7 +5,7 @@ use crate::entries::Entries;
 use crate::sound::Sound;
 use crate::table::Table;
 use actx_data::{ErrorName, Units};
-use actx_small::tree::Function;
+use actx_parse::tree::Function;
 
 /// The functions that the machine brings along.
 #[derive(Clone, Copy, Drop)]

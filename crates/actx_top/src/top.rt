@@ -2,10 +2,10 @@
 
 ghost use Rattle.std.specs.Prelude.{◌≡◌, ◌≢◌, ◌⊎◌, ◌==◌, ◌+◌, ℕ, List, length, take, map, true, false, string_bytes, codes, Some, IfSome, IfNone};
 ghost use Rattle.actx_ports.specs.Ports.{Rose};
-ghost use Rattle.actx_small.specs.Accepts.{Accepts};
-ghost use Rattle.actx_small.specs.Lexical.{same_text};
-ghost use Rattle.actx_small.specs.Tree.{Stmts};
-ghost use Rattle.actx_small.specs.View.{program_view};
+ghost use Rattle.actx_parse.specs.Accepts.{Accepts};
+ghost use Rattle.actx_parse.specs.Lexical.{same_text};
+ghost use Rattle.actx_parse.specs.Tree.{Stmts};
+ghost use Rattle.actx_parse.specs.View.{program_view};
 ghost use Rattle.actx_top.specs.Answers.{begins_with_dash, is_command, file_of, run_shows, status_of, Ran, Wrote, TellsThrow, Explains};
 ghost use Rattle.actx_top.specs.Headline.{Matches};
 ghost use Rattle.actx_top.specs.Low.{low};
@@ -14,9 +14,9 @@ ghost use Rattle.actx_top.specs.Meaning.{lines_of};
 use crate::execute::{Run, execute};
 use crate::fault::{Fault, tell};
 use actx_data::End;
+use actx_parse::read::{ReadFault, read_program};
+use actx_parse::tree::Program;
 use actx_ports::{Cabinet, PortFault, Sink, read_whole, write_whole};
-use actx_small::read::{ReadFault, read_program};
-use actx_small::tree::Program;
 use std::alloc::Global;
 
 /// How much of a program text is read: a byte more than a text may have.

@@ -1,10 +1,10 @@
 -- A program of the forms that are taken stands in the relation to its emitted program.
 use Rattle.std.proofs.Common.{ℕ, List, [], ◌∷◌}
-use Rattle.actx_small.specs.declared.tree.BinaryOp.TheVariants as o
-use Rattle.actx_small.specs.declared.tree.Form.TheVariants.{Log, NewVariable, NewWeakMap, Freeze, CallWith, Note}
-use Rattle.actx_small.specs.declared.tree.FunctionKind.TheVariants.{Normal, Arrow}
-use Rattle.actx_small.specs.Static.{IsTakenExpr, AreTaken, PropertiesTaken, ItemsTaken, IsTakenStmt, IsTaken}
-use Rattle.actx_small.specs.Tree.{Expr, Num, Text, Undefined, This, Named, Binary, Member, SetMember, Call, Object, Function, Built, Exprs, none, also, Properties, no_properties, property, Items, no_items, item, Stmt, Const, Value, Return, ReturnNothing, Block, If, Try, Stmts, end, next}
+use Rattle.actx_parse.specs.declared.tree.BinaryOp.TheVariants as o
+use Rattle.actx_parse.specs.declared.tree.Form.TheVariants.{Log, NewVariable, NewWeakMap, Freeze, CallWith, Note}
+use Rattle.actx_parse.specs.declared.tree.FunctionKind.TheVariants.{Normal, Arrow}
+use Rattle.actx_parse.specs.Static.{IsTakenExpr, AreTaken, PropertiesTaken, ItemsTaken, IsTakenStmt, IsTaken}
+use Rattle.actx_parse.specs.Tree.{Expr, Num, Text, Undefined, This, Named, Binary, Member, SetMember, Call, Object, Function, Built, Exprs, none, also, Properties, no_properties, property, Items, no_items, item, Stmt, Const, Value, Return, ReturnNothing, Block, If, Try, Stmts, end, next}
 use Rattle.actx_top.specs.Low.{names_renamed, renamed, all_renamed, properties_renamed, items_renamed, stmt_renamed, program_renamed}
 use Rattle.actx_top.specs.Related.{NamesAre, no_names, more_names, ExprIs, num_expr, text_expr, undefined_expr, named_expr, binary_expr, member_expr, call_expr, arrow_expr, log_expr, variable_expr, options_expr, ExprsAre, no_exprs, more_exprs, PropertiesAre, no_properties_are, more_properties, ItemsAre, no_items_are, more_items, StmtIs, const_stmt, value_stmt, return_stmt, return_nothing_stmt, StmtsAre, no_stmts, more_stmts}
 

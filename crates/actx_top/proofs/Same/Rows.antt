@@ -8,13 +8,13 @@ use Rattle.actx_data.specs.declared.shown.ErrorName.TheVariants.{ReferenceError}
 use Rattle.actx_data.specs.declared.trace.TraceEvent.{TraceEvent}
 use Rattle.actx_data.specs.declared.value.Value.{Value}
 use Rattle.actx_data.specs.declared.value.Value.TheVariants as v
-use Rattle.actx_small.specs.declared.side.Side.TheVariants.{Source}
-use Rattle.actx_small.specs.declared.side.Side.TheVariants as side
-use Rattle.actx_small.specs.declared.tree.FunctionKind.TheVariants.{Arrow as arrow_kind}
-use Rattle.actx_small.specs.declared.tree.Form.TheVariants.{NewVariable}
-use Rattle.actx_small.specs.Grammar.{count}
-use Rattle.actx_small.specs.Tree as t
-use Rattle.actx_small.specs.Tree.{Expr, Exprs, Properties, Items, Stmt, Stmts}
+use Rattle.actx_parse.specs.declared.side.Side.TheVariants.{Source}
+use Rattle.actx_parse.specs.declared.side.Side.TheVariants as side
+use Rattle.actx_parse.specs.declared.tree.FunctionKind.TheVariants.{Arrow as arrow_kind}
+use Rattle.actx_parse.specs.declared.tree.Form.TheVariants.{NewVariable}
+use Rattle.actx_parse.specs.Grammar.{count}
+use Rattle.actx_parse.specs.Tree as t
+use Rattle.actx_parse.specs.Tree.{Expr, Exprs, Properties, Items, Stmt, Stmts}
 use Rattle.actx_top.specs.Prelude.{name_variable}
 use Rattle.actx_top.specs.Machine.{read_cell, call_thing, call, eval_parts, keys_of, values_of, eval, begin_item, exec, exec_list, exec_body, next_statement, takes, step}
 use Rattle.actx_top.specs.State.{Normal, Cell, Closure, Eval, Given, Done, CallOf, BuiltIn, MakeObject, Frame, Pending, Store, Move, Goes, with_names}

@@ -3,8 +3,8 @@
 ghost use Rattle.std.specs.Prelude.{◌≡◌, [], ◌∷◌, IfOk, OnOk, slice_get, option_map};
 ghost use Rattle.std.specs.Option.{option_copied};
 ghost use Rattle.actx_data.specs.declared.end.End.TheVariants.{Going, Left};
-ghost use Rattle.actx_small.specs.declared.side.Side.TheVariants.{Plain};
-ghost use Rattle.actx_small.specs.View.{stmts_view};
+ghost use Rattle.actx_parse.specs.declared.side.Side.TheVariants.{Plain};
+ghost use Rattle.actx_parse.specs.View.{stmts_view};
 ghost use Rattle.actx_top.specs.Chains.{chain_of};
 ghost use Rattle.actx_top.specs.State.{Goes, Given, ExecBody, CallFrame, with_call, with_names, with_params};
 ghost use Rattle.actx_top.specs.Properties.{entry_at};
@@ -23,8 +23,8 @@ use crate::scope::Scope;
 use crate::sound::Sound;
 use crate::thing::{Method, Thing};
 use actx_data::{End, ErrorName, NoMemory, Twin, Value};
-use actx_small::name::Name;
-use actx_small::tree::{Function, FunctionKind};
+use actx_parse::name::Name;
+use actx_parse::tree::{Function, FunctionKind};
 use std::alloc::Global;
 use std::mem;
 

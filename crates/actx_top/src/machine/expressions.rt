@@ -2,10 +2,10 @@
 
 ghost use Rattle.std.specs.Prelude.{◌≡◌, IfOk, OnOk, Some, None, option_map, if◌then◌else◌, ◌&&◌};
 ghost use Rattle.actx_data.specs.declared.end.End.TheVariants.{Going, Left};
-ghost use Rattle.actx_small.specs.declared.side.Side.TheVariants.{Plain};
-ghost use Rattle.actx_small.specs.Grammar.{count};
-ghost use Rattle.actx_small.specs.Parser.{suits};
-ghost use Rattle.actx_small.specs.View.{expr_view, exprs_view, function_view};
+ghost use Rattle.actx_parse.specs.declared.side.Side.TheVariants.{Plain};
+ghost use Rattle.actx_parse.specs.Grammar.{count};
+ghost use Rattle.actx_parse.specs.Parser.{suits};
+ghost use Rattle.actx_parse.specs.View.{expr_view, exprs_view, function_view};
 ghost use Rattle.actx_top.specs.Cells.{found_cell};
 ghost use Rattle.actx_top.specs.Chains.{chain_of};
 ghost use Rattle.actx_top.specs.State.{Stops, Goes, Given, find, cell_of, cells_at};
@@ -21,8 +21,8 @@ use crate::scope::{Reading, Scope};
 use crate::sound::Sound;
 use crate::thing::Thing;
 use actx_data::{End, ErrorName, NoMemory, Twin, Units};
-use actx_small::name::Name;
-use actx_small::tree::{Expr, Form, Function, FunctionKind};
+use actx_parse::name::Name;
+use actx_parse::tree::{Expr, Form, Function, FunctionKind};
 use std::alloc::Global;
 
 /// The greatest number of the profile.

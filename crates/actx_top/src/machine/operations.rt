@@ -2,8 +2,8 @@
 
 ghost use Rattle.std.specs.Prelude.{◌≡◌, [], ◌∷◌, IfOk, OnOk};
 ghost use Rattle.actx_data.specs.declared.end.End.TheVariants.{Going, Left};
-ghost use Rattle.actx_small.specs.declared.side.Side.TheVariants.{Plain};
-ghost use Rattle.actx_small.specs.View.{expr_view, properties_view};
+ghost use Rattle.actx_parse.specs.declared.side.Side.TheVariants.{Plain};
+ghost use Rattle.actx_parse.specs.View.{expr_view, properties_view};
 ghost use Rattle.actx_top.specs.State.{Goes, Eval, Pending};
 ghost use Rattle.actx_top.specs.Properties.{with_props, any_proto};
 ghost use Rattle.actx_top.specs.Machine.{takes, operator_rule, get_rule, set_rule, put_done, object_rule, call_rule, rule, eval_parts, keys_of};
@@ -19,8 +19,8 @@ use crate::table::Table;
 use crate::thing::Thing;
 use crate::word::is_text;
 use actx_data::{End, ErrorName, NoMemory, Twin};
-use actx_small::name::Name;
-use actx_small::tree::{BinaryOp, Expr, Property};
+use actx_parse::name::Name;
+use actx_parse::tree::{BinaryOp, Expr, Property};
 use std::alloc::Global;
 
 /// Whether a key names an object's prototype.

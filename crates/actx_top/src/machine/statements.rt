@@ -2,10 +2,10 @@
 
 ghost use Rattle.std.specs.Prelude.{◌≡◌, [], IfOk, OnOk};
 ghost use Rattle.actx_data.specs.declared.end.End.TheVariants.{Going, Left};
-ghost use Rattle.actx_small.specs.Tree.{next, end};
+ghost use Rattle.actx_parse.specs.Tree.{next, end};
 ghost use Rattle.std.specs.Prelude.{option_map, slice_set};
 ghost use Rattle.std.specs.Option.{option_copied};
-ghost use Rattle.actx_small.specs.View.{expr_view, stmt_view, stmts_view, items_view, returned};
+ghost use Rattle.actx_parse.specs.View.{expr_view, stmt_view, stmts_view, items_view, returned};
 ghost use Rattle.actx_top.specs.Chains.{chain_of};
 ghost use Rattle.actx_top.specs.State.{set_in, set_cell, cells_at, with_items, with_names};
 ghost use Rattle.actx_top.specs.Machine.{takes, begin_item, exec, exec_list, exec_body, next_statement};
@@ -16,8 +16,8 @@ use crate::chain::{Chain, again, inside};
 use crate::scope::Scope;
 use crate::sound::Sound;
 use actx_data::{End, NoMemory};
-use actx_small::name::Name;
-use actx_small::tree::{ConstItem, Expr, Stmt};
+use actx_parse::name::Name;
+use actx_parse::tree::{ConstItem, Expr, Stmt};
 use std::alloc::Global;
 use std::mem;
 

@@ -3,8 +3,8 @@
 ghost use Rattle.std.specs.Prelude.{◌≡◌, [], ◌∷◌, ◌++◌, OnOk, reverse};
 ghost use Rattle.actx_match.specs.Runs.{run};
 ghost use Rattle.actx_data.specs.declared.end.End.TheVariants.{Going, Threw};
-ghost use Rattle.actx_small.specs.declared.side.Side.TheVariants.{Plain};
-ghost use Rattle.actx_small.specs.View.{exprs_view, stmts_view};
+ghost use Rattle.actx_parse.specs.declared.side.Side.TheVariants.{Plain};
+ghost use Rattle.actx_parse.specs.View.{exprs_view, stmts_view};
 ghost use Rattle.actx_top.specs.Chains.{chain_of};
 ghost use Rattle.actx_top.specs.State.{back_from, CallOf, TryFrame};
 ghost use Rattle.actx_top.specs.Machine.{takes, eval_parts, idle, chosen, base_given, given, finished, list_done, call_done, last_done, done, step, goes};
@@ -19,8 +19,8 @@ use crate::operators::{Answer, is_true};
 use crate::property::get;
 use crate::sound::Sound;
 use actx_data::{End, NoMemory};
-use actx_small::name::Name;
-use actx_small::tree::{Expr, Stmt};
+use actx_parse::name::Name;
+use actx_parse::tree::{Expr, Stmt};
 use std::mem;
 
 impl<'a> Target<'a> {

@@ -5,7 +5,7 @@ use crate::cases::{add_line, cases};
 use crate::operators::ascii;
 use crate::shown_text::shown_text;
 use actx_data::{End, Event, NoMemory, Shown, TraceEvent, Twin, Units};
-use actx_small::read::read_plain;
+use actx_parse::read::read_plain;
 use std::alloc::Global;
 use std::test::Fail;
 

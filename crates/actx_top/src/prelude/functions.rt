@@ -1,8 +1,8 @@
 //! The bodies of the prelude's functions.
 
 ghost use Rattle.std.specs.Prelude.{◌≡◌, IfOk, [], codes};
-ghost use Rattle.actx_small.specs.Tree as t;
-ghost use Rattle.actx_small.specs.View.{expr_view, exprs_view, stmt_view, stmts_view};
+ghost use Rattle.actx_parse.specs.Tree as t;
+ghost use Rattle.actx_parse.specs.View.{expr_view, exprs_view, stmt_view, stmts_view};
 ghost use Rattle.actx_top.specs.Prelude as spec;
 
 use super::shapes::{
@@ -10,7 +10,7 @@ use super::shapes::{
     returned, same, set_member, then, three, two, units,
 };
 use actx_data::{NoMemory, Units};
-use actx_small::tree::{BinaryOp, Expr, Form, Property, Stmt};
+use actx_parse::tree::{BinaryOp, Expr, Form, Property, Stmt};
 use std::alloc::Global;
 
 /// `list.number === number`.

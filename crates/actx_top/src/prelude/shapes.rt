@@ -1,15 +1,15 @@
 //! Shapes of which the prelude is built, as `base.key` and `const name = value;`.
 
 ghost use Rattle.std.specs.Prelude.{◌≡◌, IfOk, [], ◌∷◌, ◌++◌};
-ghost use Rattle.actx_small.specs.Grammar.{with_last};
-ghost use Rattle.actx_small.specs.Parser.{with_stmt};
-ghost use Rattle.actx_small.specs.Tree as t;
-ghost use Rattle.actx_small.specs.View.{expr_view, exprs_view, properties_view, stmt_view, stmts_view};
+ghost use Rattle.actx_parse.specs.Grammar.{with_last};
+ghost use Rattle.actx_parse.specs.Parser.{with_stmt};
+ghost use Rattle.actx_parse.specs.Tree as t;
+ghost use Rattle.actx_parse.specs.View.{expr_view, exprs_view, properties_view, stmt_view, stmts_view};
 ghost use Rattle.actx_top.specs.Prelude as spec;
 
 use actx_data::{NoMemory, Units};
-use actx_small::name::Name;
-use actx_small::tree::{BinaryOp, ConstItem, Expr, Form, Property, Stmt};
+use actx_parse::name::Name;
+use actx_parse::tree::{BinaryOp, ConstItem, Expr, Form, Property, Stmt};
 use std::alloc::Global;
 
 /// The name of these ASCII characters.

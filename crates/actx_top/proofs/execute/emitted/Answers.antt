@@ -1,7 +1,7 @@
 use Rattle.std.proofs.Common.{◌≡◌, ◌∙◌, ap}
-use Rattle.actx_small.specs.Layout.{layout}
-use Rattle.actx_small.specs.Spell.{spell_program}
-use Rattle.actx_small.specs.View.{program_view}
+use Rattle.actx_parse.specs.Layout.{layout}
+use Rattle.actx_parse.specs.Spell.{spell_program}
+use Rattle.actx_parse.specs.View.{program_view}
 use Rattle.actx_top.specs.Low.{low}
 use Rattle.actx_top.proofs.Outcomes.{if_ok}
 use Rattle.actx_top.proofs.execute.emitted.Goals as goal

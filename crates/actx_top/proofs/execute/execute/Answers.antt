@@ -1,7 +1,7 @@
 use Rattle.std.proofs.Common.{◌≡◌, ◌∙◌, ℕ, List, [], sym, subst, IfOk}
-use Rattle.actx_small.specs.Accepts.{ReadsPlain}
-use Rattle.actx_small.specs.Tree.{Stmts}
-use Rattle.actx_small.specs.View.{program_view}
+use Rattle.actx_parse.specs.Accepts.{ReadsPlain}
+use Rattle.actx_parse.specs.Tree.{Stmts}
+use Rattle.actx_parse.specs.View.{program_view}
 use Rattle.actx_top.specs.Answers.{most_steps}
 use Rattle.actx_top.specs.Ending.{Ends}
 use Rattle.actx_top.specs.Headline.{emitted}

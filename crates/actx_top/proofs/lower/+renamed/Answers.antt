@@ -1,6 +1,6 @@
 use Rattle.std.proofs.Common.{◌≡◌, ap, ◌∙◌, arith, take, map}
 use Rattle.std.proofs.lemmas.Grind.{common_steps}
-use Rattle.actx_small.specs.View.{expr_view, exprs_of, item_view, items_of, property_view, properties_of, stmt_view, stmts_of}
+use Rattle.actx_parse.specs.View.{expr_view, exprs_of, item_view, items_of, property_view, properties_of, stmt_view, stmts_of}
 use Rattle.actx_top.specs.Low.{p_, renamed, stmt_renamed}
 use Rattle.actx_top.proofs.Lowered.{exprs_each, properties_each, items_each, statements_each}
 use Rattle.actx_top.proofs.lower.+renamed.Goals as goal

@@ -1,5 +1,5 @@
 use Rattle.std.proofs.Common.{◌≡◌, map, take}
-use Rattle.actx_small.specs.View.{expr_view, item_view, property_view, stmt_view}
+use Rattle.actx_parse.specs.View.{expr_view, item_view, property_view, stmt_view}
 use Rattle.actx_top.specs.Low.{p_, renamed, stmt_renamed}
 use Rattle.actx_top.proofs.lower.+renamed.Given as goal
 

@@ -1,6 +1,6 @@
 use Rattle.std.proofs.Common.{◌≡◌, ◌∙◌, ℕ, List, take, sym, subst, refl, inl, inr, ⊎_elim}
-use Rattle.actx_small.specs.Accepts.{Accepts}
-use Rattle.actx_small.specs.Tree.{Stmts}
+use Rattle.actx_parse.specs.Accepts.{Accepts}
+use Rattle.actx_parse.specs.Tree.{Stmts}
 use Rattle.actx_top.proofs.Taken.{accepted_whole, accepted_back}
 use Rattle.actx_top.proofs.top.run_file.Goals as goal
 

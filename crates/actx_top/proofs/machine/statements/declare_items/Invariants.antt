@@ -1,5 +1,5 @@
 use Rattle.std.proofs.Common.{◌≡◌, drop}
-use Rattle.actx_small.specs.View.{items_view}
+use Rattle.actx_parse.specs.View.{items_view}
 use Rattle.actx_top.specs.State.{with_items}
 use Rattle.actx_top.proofs.machine.statements.declare_items.Given as goal
 

@@ -1,0 +1,16 @@
+use Rattle.std.proofs.Common.{ap, sym, ◌∙◌}
+use Rattle.actx_parse.specs.Grammar.{count, with_last}
+use Rattle.actx_parse.specs.Parser.{go_if, have, suits}
+use Rattle.actx_parse.specs.Tree.{Built}
+use Rattle.actx_parse.specs.View.{expr_view, exprs_view}
+use Rattle.actx_parse.proofs.ParseStack.{count_last}
+use Rattle.actx_parse.proofs.parse.ends.close_form_with.Goals as goal
+
+pub returns : goal.returns
+returns c = λ s.
+    let f = c.args.form in
+    let es = exprs_view c.args.parts.items in
+    let e = expr_view c.args.last in
+    ap (λ n. go_if (suits f n) (have (Built f (with_last es e)) c.args.reach) s) (sym (count_last es e))
+    ∙ ap (λ z. go_if (suits f (count z)) (have (Built f z) c.args.reach) s) (sym c.in_ok-parts.ensures)
+    ∙ c.close_form.ensures s

@@ -1,5 +1,0 @@
-use Rattle.actx_small.proofs.SpellAll.{program_again}
-use Rattle.actx_small.proofs.spell.spelled_again.Goals as goal
-
-pub returns : goal.returns
-returns c = λ side d p ts h. program_again h
