@@ -1,0 +1,52 @@
+//! Programs of 40,000 levels and their texts.
+
+use super::{one, text, value};
+use actx_ast::operators::{FunctionKind, UnaryOp};
+use actx_ast::tree::{Expr, Function, Stmt};
+use actx_data::NoMemory;
+use std::alloc::Global;
+use std::test::Fail;
+
+const LEVELS: u32 = 40000;
+
+fn unaries(alloc: Global) -> Result<Expr, NoMemory> {
+    let mut e = Expr::This;
+    for _ in 0..LEVELS {
+        e = Expr::Unary(UnaryOp::Not, Box::new(alloc, e)?);
+    }
+    Ok(e)
+}
+
+fn blocks(alloc: Global) -> Result<Stmt, NoMemory> {
+    let mut stmt = Stmt::Empty;
+    for _ in 0..LEVELS {
+        stmt = Stmt::Block(one(alloc, stmt)?);
+    }
+    Ok(stmt)
+}
+
+fn functions(alloc: Global) -> Result<Expr, NoMemory> {
+    let mut e = Expr::This;
+    for _ in 0..LEVELS {
+        let f = Function {
+            name: None,
+            kind: FunctionKind::Arrow,
+            params: Vec::new(alloc),
+            body: one(alloc, Stmt::Return(Some(e)))?,
+        };
+        e = Expr::Function(Box::new(alloc, f)?);
+    }
+    Ok(e)
+}
+
+#[test]
+fn deep_programs_are_printed(rt: HostRuntime) -> Result<(), Fail> {
+    let alloc = rt.alloc();
+    let e = unaries(alloc)?;
+    assert_eq!(rt; value(alloc, e)?.len(), 80007);
+    let stmt = blocks(alloc)?;
+    assert_eq!(rt; text(alloc, stmt)?.len(), 160002);
+    let e = functions(alloc)?;
+    assert_eq!(rt; value(alloc, e)?.len(), 760007);
+    Ok(())
+}
