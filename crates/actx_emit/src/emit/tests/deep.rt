@@ -42,11 +42,14 @@ fn functions(alloc: Global) -> Result<Expr, NoMemory> {
 #[test]
 fn deep_programs_are_printed(rt: HostRuntime) -> Result<(), Fail> {
     let alloc = rt.alloc();
+    // `! ` a level, and `this ;` with a line end.
     let e = unaries(alloc)?;
     assert_eq!(rt; value(alloc, e)?.len(), 80007);
+    // `{` and `}` a level, each with a line end, and `;` with one.
     let stmt = blocks(alloc)?;
     assert_eq!(rt; text(alloc, stmt)?.len(), 160002);
+    // `( ) => {`, `return `, `;` and `}` a level, three of them with a line end, and `this ` and `;` with one.
     let e = functions(alloc)?;
-    assert_eq!(rt; value(alloc, e)?.len(), 760007);
+    assert_eq!(rt; value(alloc, e)?.len(), 800007);
     Ok(())
 }
