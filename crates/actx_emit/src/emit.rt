@@ -29,7 +29,14 @@ pub fn emit(alloc: Global, plain: &Program) -> Result<Vec<u8>, NoMemory>
     ensures text { IfOk result (λ v. v.items ≡ encode_utf8_all (spec.layout (spell_program (program_view plain.now)))) }
     ensures reads_back { IfOk result (λ v. ReadsBack v.items (program_view plain.now)) }
 {
-    let tokens = spell(alloc, plain)?;
+    text_of(alloc, plain)
+}
+
+/// The text of any program.
+fn text_of(alloc: Global, program: &Program) -> Result<Vec<u8>, NoMemory>
+    ensures { IfOk result (λ v. v.items ≡ encode_utf8_all (spec.layout (spell_program (program_view program.now)))) }
+{
+    let tokens = spell(alloc, program)?;
     Ok(layout(alloc, tokens.as_slice())?.into_bytes())
 }
 
@@ -57,3 +64,6 @@ fn gap_after(token: &TokenKind, last: bool) -> char
         _ => { if last { '\n' } else { ' ' } }
     }
 }
+
+#[cfg(test)]
+mod tests;
