@@ -21,17 +21,17 @@ use Rattle.actx_ast.proofs.ParseRuns.{runs, after, if_holds}
 use Rattle.actx_ast.proofs.ParseSteps.{opens}
 
 -- WORDS
-abbrev is_word : TokenKind → Bool
+abbrev pub is_word : TokenKind → Bool
 is_word (t.Name x) = true
 is_word (t.Keyword k.New) = true
 is_word (t.Sign g.Dot) = true
 is_word _ = false
 
-abbrev all_words : List TokenKind → Bool
+abbrev pub all_words : List TokenKind → Bool
 all_words [] = true
 all_words (w ∷ ws) = is_word w && all_words ws
 
-form_all_words : (form : Form) → all_words (form_words form) ≡ true
+pub form_all_words : (form : Form) → all_words (form_words form) ≡ true
 form_all_words f.Log = refl
 form_all_words _ = refl
 
@@ -44,11 +44,11 @@ and_right true b h = h
 and_right false b h = absurd (cc)
 
 -- a word in the middle of words, and the words up to it
-middle : (ws : List TokenKind) (w : TokenKind) (vs : List TokenKind) → all_words (ws ++ w ∷ vs) ≡ true → is_word w ≡ true
+pub middle : (ws : List TokenKind) (w : TokenKind) (vs : List TokenKind) → all_words (ws ++ w ∷ vs) ≡ true → is_word w ≡ true
 middle [] w vs h = and_left (is_word w) (all_words vs) h
 middle (v ∷ ws) w vs h = middle ws w vs (and_right (is_word v) (all_words (ws ++ w ∷ vs)) h)
 
-before : (ws vs : List TokenKind) → all_words (ws ++ vs) ≡ true → all_words ws ≡ true
+pub before : (ws vs : List TokenKind) → all_words (ws ++ vs) ≡ true → all_words ws ≡ true
 before [] vs h = refl
 before (w ∷ ws) vs h = both (is_word w) (all_words ws) (and_left (is_word w) (all_words (ws ++ vs)) h) (before ws vs (and_right (is_word w) (all_words (ws ++ vs)) h))
 
@@ -60,7 +60,7 @@ token_self (t.Sign g.Dot) h = refl
 token_self (t.Sign _) h = absurd (cc)
 token_self _ h = absurd (cc)
 
-begins_so : (ws vs : List TokenKind) → all_words ws ≡ true → begins_with (ws ++ vs) ws ≡ true
+pub begins_so : (ws vs : List TokenKind) → all_words ws ≡ true → begins_with (ws ++ vs) ws ≡ true
 begins_so [] vs h = refl
 begins_so (w ∷ ws) vs h = both (same_token w w) (begins_with (ws ++ vs) ws) (token_self w (and_left (is_word w) (all_words ws) h)) (begins_so ws vs (and_right (is_word w) (all_words ws) h))
 
@@ -135,7 +135,7 @@ first_operand lim side s (t.Keyword _) h = absurd (cc)
 first_operand lim side s _ h = absurd (cc)
 
 -- a form that goes on with some words
-found_goes : (lim : Limits) (depth : ℕ) (vs ws : List TokenKind) (forms : List Form) (form : Form) → form_with ws forms ≡ Some form → begins_with (form_words form) vs ≡ true → (nat_eq (least_parts form) 0 || fits lim (suc depth)) ≡ true
+pub found_goes : (lim : Limits) (depth : ℕ) (vs ws : List TokenKind) (forms : List Form) (form : Form) → form_with ws forms ≡ Some form → begins_with (form_words form) vs ≡ true → (nat_eq (least_parts form) 0 || fits lim (suc depth)) ≡ true
     → goes_on lim depth vs forms ≡ true
 found_goes lim depth vs ws [] form h i j = absurd (cc)
 found_goes lim depth vs ws (e ∷ forms) form h i j =
@@ -149,7 +149,7 @@ found_goes lim depth vs ws (e ∷ forms) form h i j =
     pick false q on = either_right (begins_with (form_words e) vs && (nat_eq (least_parts e) 0 || fits lim (suc depth))) (goes_on lim depth vs forms) (on q)
 
 -- READING
-word_move : (lim : Limits) (side : Side) (ws : List TokenKind) (s : List Frame) (w : TokenKind) → is_word w ≡ true → at_words lim side ws s w ≡ words_go lim side (ws ++ w ∷ []) s
+pub word_move : (lim : Limits) (side : Side) (ws : List TokenKind) (s : List Frame) (w : TokenKind) → is_word w ≡ true → at_words lim side ws s w ≡ words_go lim side (ws ++ w ∷ []) s
 word_move lim side ws s (t.Name x) h = refl
 word_move lim side ws s (t.Keyword _) h = refl
 word_move lim side ws s (t.Sign g.OpenParen) h = absurd (cc)

@@ -32,10 +32,10 @@ unexpected_refused side m s w h = unexpected_test (is_refused (step unlimited si
 deep_refused : (side : Side) (m : Mode) (s : List Frame) (w : Lexeme) → reason side m s w ≡ too_deep → is_refused (step (unlisted side) side m s w) ≡ true
 deep_refused side m s w h = deep_test (is_refused (step unlimited side m s w)) (is_refused (step (unlisted side) side m s w)) h
 
-unlimited_looser : (side : Side) → Looser (limits side) unlimited
+pub unlimited_looser : (side : Side) → Looser (limits side) unlimited
 unlimited_looser side = record { deeper = λ n h. refl; longer = λ n h. refl }
 
-unlisted_looser : (side : Side) → Looser (limits side) (unlisted side)
+pub unlisted_looser : (side : Side) → Looser (limits side) (unlisted side)
 unlisted_looser side = record { deeper = λ n h. h; longer = λ n h. refl }
 
 -- THE RUN WITHIN LOOSER LIMITS

@@ -152,13 +152,13 @@ call_open_viable e r s p z c i (t.Sign _) b plain at d deep = tt
 call_open_viable e r s p z c i _ b plain at d deep = tt
 
 -- FORMS
-same_token_is : (v w : TokenKind) → same_token v w ≡ true → v ≡ w
+pub same_token_is : (v w : TokenKind) → same_token v w ≡ true → v ≡ w
 same_token_is (t.Name x) (t.Name y) h = ap t.Name ((same_decides x y).0 h)
 same_token_is (t.Keyword k.New) (t.Keyword k.New) h = refl
 same_token_is (t.Sign g.Dot) (t.Sign g.Dot) h = refl
 same_token_is _ _ h = absurd (cc)
 
-same_words : (v w : List TokenKind) → begins_with v w ≡ true → begins_with w v ≡ true → v ≡ w
+pub same_words : (v w : List TokenKind) → begins_with v w ≡ true → begins_with w v ≡ true → v ≡ w
 same_words [] [] h i = refl
 same_words [] (w ∷ ws) h i = absurd (cc)
 same_words (v ∷ vs) [] h i = absurd (cc)
@@ -167,19 +167,19 @@ same_words (v ∷ vs) (w ∷ ws) h i =
     let b : vs ≡ ws = same_words vs ws (and_right (same_token v w) (begins_with vs ws) h) (and_right (same_token w v) (begins_with ws vs) i) in
     ap (λ z. z ∷ vs) a ∙ ap (λ z. w ∷ z) b
 
-abbrev Worded : Side → List Form → Type 0
+abbrev pub Worded : Side → List Form → Type 0
 Worded side [] = Unit {0}
 Worded side (form ∷ forms) = HasWords side form × Worded side forms
 
-worded : (side : Side) → Worded side (forms_of side)
+pub worded : (side : Side) → Worded side (forms_of side)
 worded Source = (tt, (tt, (tt, (tt, (tt, (tt, (tt, (tt, (tt, (tt, (tt, (tt, (tt, (tt, (tt, tt)))))))))))))))
 worded Plain = (tt, (tt, (tt, (tt, (tt, (tt, (tt, (tt, (tt, (tt, (tt, tt)))))))))))
 
-record Found (side : Side) (ws : List TokenKind) (form : Form) : Type 0 where
+pub record Found (side : Side) (ws : List TokenKind) (form : Form) : Type 0 where
   pub has : HasWords side form
   pub words : form_words form ≡ ws
 
-found : {side : Side} (ws : List TokenKind) (forms : List Form) (form : Form) → Worded side forms → form_with ws forms ≡ Some form → Found side ws form
+pub found : {side : Side} (ws : List TokenKind) (forms : List Form) (form : Form) → Worded side forms → form_with ws forms ≡ Some form → Found side ws form
 found ws [] form h q = absurd (cc)
 found {side} ws (f ∷ forms) form h q = pick (begins_with (form_words f) ws && begins_with ws (form_words f)) refl q (λ j. found ws forms form h.1 j)
   where

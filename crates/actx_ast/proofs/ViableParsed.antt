@@ -6,10 +6,10 @@ use Rattle.std.specs.List.{AllByRecursion}
 use Rattle.actx_ast.specs.declared.side.Side.{Side}
 use Rattle.actx_ast.specs.declared.side.Side.TheVariants.{Source, Plain}
 use Rattle.actx_ast.specs.Exact.{SpellsWhatIsParsed}
-use Rattle.actx_ast.specs.Grammar.{deepest, IsSpelled, sp_end}
+use Rattle.actx_ast.specs.Grammar.{deepest, SpellsStmts, IsSpelled, sp_end}
 use Rattle.actx_ast.specs.Lexemes.{Lexeme}
 use Rattle.actx_ast.specs.Parser.{step, finish, finish_standing, settle_stmt, Standing, standing, parsed, refused, finished, carry, limits, run, reason}
-use Rattle.actx_ast.specs.ParserState.{fits, program, Frame, in_list, Mode, start, Move, refuse, go}
+use Rattle.actx_ast.specs.ParserState.{Limits, fits, program, Frame, in_list, Mode, start, Move, refuse, go}
 use Rattle.actx_ast.specs.Tree.{Stmts, Try, no_last, end}
 use Rattle.actx_ast.specs.Words.{HasForm}
 use Rattle.actx_ast.proofs.ParseNames.{le_from}
@@ -20,40 +20,50 @@ use Rattle.actx_ast.proofs.ViableBehind.{One}
 use Rattle.actx_ast.proofs.ViableStatements.{StandsAt, settle_stmt_viable, list_more}
 use Rattle.actx_ast.proofs.ViableStart.{try_ended}
 use Rattle.actx_ast.proofs.ViableSound.{step_viable}
+use Rattle.actx_ast.proofs.ViableTests.{fits_less}
 
 -- THE END
 side_fits : (side : Side) (r : ℕ) → fits (limits side) r ≡ true → r ≤ deepest side
 side_fits side r h = le_from r (deepest side) h
 
-program_spelled : {side : Side} {ss : Stmts} {r : ℕ} {p : List Lexeme} → Opens (limits side) side (in_list program ss r ∷ []) p → IsSpelled side ss p
-program_spelled {side} {r = r} (op_list own_program c d deep) = let i : r ≤ deepest side = side_fits side r deep.within in deeper_stmts d (omega (arith, deep.reach, i))
+-- the tokens spell the program within a depth that fits
+pub record Whole (lim : Limits) (side : Side) (q : Stmts) (p : List Lexeme) : Type 0 where
+  pub height : ℕ
+  pub spelled : SpellsStmts side lim.most height q p
+  pub within : fits lim height ≡ true
 
-spelled_as : {side : Side} {p q : Stmts} {ts : List Lexeme} → p ≡ q → IsSpelled side p ts → IsSpelled side q ts
-spelled_as {side} {ts = ts} e h = subst (λ z. IsSpelled side z ts) e h
+program_spelled : {lim : Limits} {side : Side} {ss : Stmts} {r : ℕ} {p : List Lexeme} → Opens lim side (in_list program ss r ∷ []) p → Whole lim side ss p
+program_spelled {lim} {r = r} (op_list {n = n} own_program c d deep) = record { height = n; spelled = d; within = fits_less lim n r deep.within (omega (arith, deep.reach)) }
 
-standing_finished : (side : Side) (v : Standing) (p : List Lexeme) (q : Stmts) → StandsAt (limits side) side v p → finish_standing v ≡ Some q → IsSpelled side q p
-standing_finished side (standing st r (in_list program ss j ∷ [])) p q h e = spelled_as (cc) (program_spelled (opens_along h.all (list_more h.stack h.spells h.deep)))
-standing_finished side (standing st r (in_list program ss j ∷ f ∷ s)) p q h e = absurd (cc)
-standing_finished side (standing st r (in_list _ ss j ∷ s)) p q h e = absurd (cc)
-standing_finished side (standing st r []) p q h e = absurd (cc)
-standing_finished side (standing st r (_ ∷ s)) p q h e = absurd (cc)
+spelled_as : {lim : Limits} {side : Side} {p q : Stmts} {ts : List Lexeme} → p ≡ q → Whole lim side p ts → Whole lim side q ts
+spelled_as {lim} {side} {ts = ts} e h = subst (λ z. Whole lim side z ts) e h
 
-list_finished : {side : Side} (s : List Frame) (p : List Lexeme) (q : Stmts) → Opens (limits side) side s p → finish start s ≡ Some q → IsSpelled side q p
+standing_finished : (lim : Limits) (side : Side) (v : Standing) (p : List Lexeme) (q : Stmts) → StandsAt lim side v p → finish_standing v ≡ Some q → Whole lim side q p
+standing_finished lim side (standing st r (in_list program ss j ∷ [])) p q h e = spelled_as (cc) (program_spelled (opens_along h.all (list_more h.stack h.spells h.deep)))
+standing_finished lim side (standing st r (in_list program ss j ∷ f ∷ s)) p q h e = absurd (cc)
+standing_finished lim side (standing st r (in_list _ ss j ∷ s)) p q h e = absurd (cc)
+standing_finished lim side (standing st r []) p q h e = absurd (cc)
+standing_finished lim side (standing st r (_ ∷ s)) p q h e = absurd (cc)
+
+list_finished : {lim : Limits} {side : Side} (s : List Frame) (p : List Lexeme) (q : Stmts) → Opens lim side s p → finish start s ≡ Some q → Whole lim side q p
 list_finished (in_list program ss r ∷ []) p q o e = spelled_as (cc) (program_spelled o)
 list_finished (in_list program ss r ∷ f ∷ s) p q o e = absurd (cc)
 list_finished (in_list _ ss r ∷ s) p q o e = absurd (cc)
 list_finished [] p q o e = absurd (cc)
 list_finished (_ ∷ s) p q o e = absurd (cc)
 
-ends : {side : Side} (m : Mode) (s : List Frame) (p : List Lexeme) (q : Stmts) → Viable (limits side) side m s p → finish m s ≡ Some q → IsSpelled side q p
+pub ends : {lim : Limits} {side : Side} (m : Mode) (s : List Frame) (p : List Lexeme) (q : Stmts) → Viable lim side m s p → finish m s ≡ Some q → Whole lim side q p
 ends m s p q (v_start o l) e = list_finished s p q o e
-ends {side} m s p q (v_have_stmt {p = u} {x = x} {st = st} {n = n} {r = r} o d i w deep) e =
-    standing_finished side (settle_stmt st r s) p q (settle_stmt_viable st r s p (record { before = u; own = x; height = n; stack = o; spells = d; fit = i; all = refl; deep = deep })) e
-ends {side} m s p q (v_finally_next {bs = bs} {c = c} {r = r} o d deep) e = standing_finished side (settle_stmt (Try bs c no_last) r s) p q (settle_stmt_viable (Try bs c no_last) r s p (try_ended o d deep)) e
+ends {lim} {side} m s p q (v_have_stmt {p = u} {x = x} {st = st} {n = n} {r = r} o d i w deep) e =
+    standing_finished lim side (settle_stmt st r s) p q (settle_stmt_viable st r s p (record { before = u; own = x; height = n; stack = o; spells = d; fit = i; all = refl; deep = deep })) e
+ends {lim} {side} m s p q (v_finally_next {bs = bs} {c = c} {r = r} o d deep) e = standing_finished lim side (settle_stmt (Try bs c no_last) r s) p q (settle_stmt_viable (Try bs c no_last) r s p (try_ended o d deep)) e
 ends m s p q v e = absurd (cc)
 
+ends_within : {side : Side} (m : Mode) (s : List Frame) (p : List Lexeme) (q : Stmts) → Viable (limits side) side m s p → finish m s ≡ Some q → IsSpelled side q p
+ends_within {side} m s p q v e = let h : Whole (limits side) side q p = ends m s p q v e in deeper_stmts h.spelled (side_fits side h.height h.within)
+
 -- ALL TOKENS
-one_parameter : (side : Side) → One (limits side)
+pub one_parameter : (side : Side) → One (limits side)
 one_parameter Source = omega arith
 one_parameter Plain = tt
 
@@ -62,7 +72,7 @@ at_end at {o = None} e = absurd (cc)
 at_end at {o = Some p} e = cc
 
 sound : (side : Side) (ts : List Lexeme) (at : ℕ) (m : Mode) (s : List Frame) (p : List Lexeme) (q : Stmts) → AllByRecursion (λ t. HasForm t.kind) ts → Viable (limits side) side m s p → run side at m s ts ≡ parsed q → IsSpelled side q (p ++ ts)
-sound side [] at m s p q f v e = subst (λ z. IsSpelled side q z) (sym (append-nil p)) (ends m s p q v (at_end at e))
+sound side [] at m s p q f v e = subst (λ z. IsSpelled side q z) (sym (append-nil p)) (ends_within m s p q v (at_end at e))
 sound side (w ∷ ts) at m s p q f v e = on (step (limits side) side m s w) (step_viable (one_parameter side) m s p w.kind w.line_before v f.0) e (λ n z a i. sound side ts (suc at) n z (p ++ w ∷ []) q f.1 a i)
   where
     on : (mv : Move) → After (limits side) side mv (p ++ w ∷ []) → carry mv (λ n z. run side (suc at) n z ts) (refused at (reason side m s w)) ≡ parsed q
@@ -71,7 +81,7 @@ sound side (w ∷ ts) at m s p q f v e = on (step (limits side) side m s w) (ste
     on refuse a i go_on = absurd (cc)
     on (go n z) a i go_on = subst (λ y. IsSpelled side q y) (append_assoc p (w ∷ []) ts) (go_on n z a i)
 
-zero_fits : (side : Side) → fits (limits side) 0 ≡ true
+pub zero_fits : (side : Side) → fits (limits side) 0 ≡ true
 zero_fits Source = refl
 zero_fits Plain = refl
 

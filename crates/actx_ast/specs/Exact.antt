@@ -1,10 +1,10 @@
 -- What the parser's machine promises: it answers exactly the program that tokens spell, and refuses only a token with which
 -- no program goes on.
-use Rattle.std.specs.Prelude.{◌≡◌, ℕ, suc, ◌<◌, Option, None, List, ◌++◌, length, take, All}
+use Rattle.std.specs.Prelude.{◌≡◌, ℕ, suc, ◌<◌, ◌≤◌, Option, None, List, ◌++◌, length, take, All}
 use Rattle.actx_ast.specs.declared.side.Side.{Side}
 use Rattle.actx_ast.specs.Grammar.{deepest, most, SpellsStmts, IsSpelled}
 use Rattle.actx_ast.specs.Lexemes.{Lexeme}
-use Rattle.actx_ast.specs.Parser.{parse, parsed, refused, Reason, unexpected, too_deep}
+use Rattle.actx_ast.specs.Parser.{parse, parsed, refused, Reason, unexpected, too_deep, too_many}
 use Rattle.actx_ast.specs.Tree.{Stmts}
 use Rattle.actx_ast.specs.Words.{HasForm}
 
@@ -42,3 +42,20 @@ abbrev pub RefusesForItsReason : Type 0
 RefusesForItsReason = (side : Side) (ts : List Lexeme) (i : ℕ) →
     (parse side ts ≡ refused i unexpected → (depth : ℕ) → UpTo (Begins side None depth) i ts → ⊥)
     × (parse side ts ≡ refused i too_deep → UpTo (Begins side None (deepest side)) i ts → ⊥)
+
+-- token i is the first with which no program within the limits goes on; the end is where none ends
+pub record IsFirst (side : Side) (ts : List Lexeme) (i : ℕ) : Type 0 where
+  pub within : i ≤ length ts
+  pub before : BeginsWithin side (take i ts)
+  pub stops : UpTo (BeginsWithin side) i ts → ⊥
+  pub whole : i ≡ length ts → (p : Stmts) → IsSpelled side p ts → ⊥
+
+-- why: none goes on at any depth with lists of any length; or one does only with longer lists; or only deeper
+abbrev pub IsReason : Side → List Lexeme → ℕ → Reason → Type 0
+IsReason side ts i unexpected = (depth : ℕ) → UpTo (Begins side None depth) i ts → ⊥
+IsReason side ts i too_many = UpTo (Begins side None (deepest side)) i ts
+IsReason side ts i too_deep = ((depth : ℕ) × UpTo (Begins side None depth) i ts) × (UpTo (Begins side None (deepest side)) i ts → ⊥)
+
+-- what it refuses is the first such token, and for its reason
+abbrev pub RefusesFirst : Type 0
+RefusesFirst = (side : Side) (ts : List Lexeme) (i : ℕ) (why : Reason) → InForm ts → parse side ts ≡ refused i why → IsFirst side ts i × IsReason side ts i why

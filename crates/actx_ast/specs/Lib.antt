@@ -18,6 +18,9 @@ pub mod Nodes
 pub mod Places
 pub mod Static
 pub mod Sides
+pub mod Clauses
+pub mod Copies
 pub mod Starts
 pub mod Sizes
 pub mod Unspelled
+pub mod InOrder

@@ -75,7 +75,7 @@ pub fn keyword_of(word: &[char]) -> Option<Keyword>
 }
 
 /// Whether the characters are those of an ASCII text.
-fn is_written(text: &[u8], word: &[char]) -> bool
+pub(super) fn is_written(text: &[u8], word: &[char]) -> bool
     ensures { (result ≡ true) ↔ (word.now ≡ text.now) }
 {
     if text.len() != word.len() {

@@ -1,8 +1,9 @@
 //! Laws of how programs are printed and parsed. A law's function does nothing: its contract is the law.
 
 ghost use Rattle.actx_ast.specs.Depth.{Shallowest};
-ghost use Rattle.actx_ast.specs.Exact.{ParsesWhatIsSpelled, SpellsWhatIsParsed, NothingGoesOn, RefusesForItsReason};
+ghost use Rattle.actx_ast.specs.Exact.{ParsesWhatIsSpelled, SpellsWhatIsParsed, NothingGoesOn, RefusesForItsReason, RefusesFirst};
 ghost use Rattle.actx_ast.specs.Grammar.{OneTree};
+ghost use Rattle.actx_ast.specs.InOrder.{EveryNodeHasAPlace, OffencesAreInOrder};
 ghost use Rattle.actx_ast.specs.Sides.{ToldByTheTree};
 ghost use Rattle.actx_ast.specs.Spell.{SpelledAgain, SpelledInForm};
 
@@ -51,4 +52,20 @@ pub fn nothing_goes_on()
 /// A law: what the parser's machine calls unexpected goes on at no depth, and what it calls too deep not within the depth.
 pub fn refuses_for_its_reason()
     ensures { RefusesForItsReason }
+{}
+
+/// A law: the token that the parser's machine refuses is the first with which no program within the limits goes on, and
+/// the reason says what it would take.
+pub fn refuses_first()
+    ensures { RefusesFirst }
+{}
+
+/// A law: each node of a program that tokens spell has its place among them.
+pub fn every_node_has_a_place()
+    ensures { EveryNodeHasAPlace }
+{}
+
+/// A law: the offences of a program stand in the order of their nodes, each at a node of its own.
+pub fn offences_are_in_order()
+    ensures { OffencesAreInOrder }
 {}

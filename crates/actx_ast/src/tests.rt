@@ -54,7 +54,7 @@ fn object(alloc: Global, e: Expr) -> Result<Expr, AllocError> {
 }
 
 /// An expression of one of twenty kinds that holds `e`.
-fn wrap(alloc: Global, kind: u32, e: Expr) -> Result<Expr, AllocError> {
+pub fn wrap(alloc: Global, kind: u32, e: Expr) -> Result<Expr, AllocError> {
     match kind % 20 {
         0 => Ok(Expr::Unary(UnaryOp::Not, Box::new(alloc, e)?)),
         1 => Ok(Expr::Binary(BinaryOp::Add, Box::new(alloc, e)?, boxed(alloc)?)),
@@ -122,7 +122,7 @@ fn clauses(alloc: Global, st: Stmt) -> Result<Vec<Clause>, AllocError> {
 }
 
 /// A statement of one of eighteen kinds that holds `st` and `e`.
-fn wrap_stmt(alloc: Global, kind: u32, st: Stmt, e: Expr) -> Result<Stmt, AllocError> {
+pub fn wrap_stmt(alloc: Global, kind: u32, st: Stmt, e: Expr) -> Result<Stmt, AllocError> {
     match kind % 18 {
         0 => Ok(Stmt::Fun(function(alloc, st)?)),
         1 => Ok(Stmt::Block(stmts(alloc, st)?)),
