@@ -20,7 +20,8 @@ use Rattle.actx_lex.specs.declared.token.Token.{Token}
 use Rattle.actx_lex.specs.Lexical.{IsToken, IsLongest, MayFollow, Place, start, is_fresh, passed, behind, token_at, Reads, here, blank, token, Tokens}
 use Rattle.actx_lex.specs.Lexeme.{Begins}
 use Rattle.actx_emit.specs.Layout.{token_text, gap_after, layout}
-use Rattle.actx_emit.specs.Reads.{lexemes, ReadsBack}
+use Rattle.actx_emit.specs.Reads.{ReadsBack}
+use Rattle.actx_lex.specs.Lexemes.{lexemes}
 use Rattle.actx_emit.proofs.Beginnings.{IsGap, feed, space, token_at_gap}
 use Rattle.actx_emit.proofs.Scalars.{layout_scalars}
 

@@ -1,20 +1,13 @@
 -- What a printed text is read as.
-use Rattle.std.specs.Prelude.{◌≡◌, ℕ, List, map}
+use Rattle.std.specs.Prelude.{◌≡◌, ℕ, List}
 use Rattle.actx_ast.specs.declared.side.Side.TheVariants.{Plain}
 use Rattle.actx_ast.specs.Grammar.{IsSpelled}
 use Rattle.actx_ast.specs.Layout.{laid}
-use Rattle.actx_ast.specs.Lexemes.{Lexeme}
 use Rattle.actx_ast.specs.Spell.{spell_program}
 use Rattle.actx_ast.specs.Tree.{Stmts}
 use Rattle.actx_lex.specs.declared.token.Token.{Token}
+use Rattle.actx_lex.specs.Lexemes.{lexemes}
 use Rattle.actx_lex.specs.Lexical.{Tokens}
-
--- tokens as the grammar sees them
-abbrev pub lexeme_of : Token → Lexeme
-lexeme_of t = record { kind = t.kind; line_before = t.line_before }
-
-abbrev pub lexemes : List Token → List Lexeme
-lexemes ts = map lexeme_of ts
 
 -- the text is cut into the program's own tokens, which spell it within the limits of the plain side
 pub record ReadsBack (text : List ℕ) (program : Stmts) : Type 0 where

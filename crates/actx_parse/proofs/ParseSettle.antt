@@ -1,149 +1,61 @@
--- What an operand ends keeps what was read in order: operators, properties that are set, and arrows.
-use Rattle.std.proofs.Common.{◌≡◌, ℕ, suc, max, ◌+◌, ◌≤◌, ◌<◌, List, [], ◌∷◌, ◌++◌, Bool, true, false, cond, refl, arith, append_assoc}
-use Rattle.std.proofs.lemmas.Bool.Decides.{nat_tests}
-use Rattle.std.specs.Prelude.{nat_le}
-use Rattle.actx_parse.specs.declared.side.Side.{Side}
-use Rattle.actx_parse.specs.declared.token.Sign.TheVariants as g
-use Rattle.actx_parse.specs.declared.token.TokenKind.{TokenKind}
-use Rattle.actx_parse.specs.declared.token.TokenKind.TheVariants as t
-use Rattle.actx_parse.specs.declared.tree.BinaryOp.{BinaryOp}
-use Rattle.actx_parse.specs.declared.tree.BinaryOp.TheVariants as o
-use Rattle.actx_parse.specs.declared.tree.FunctionKind.TheVariants.{Arrow}
-use Rattle.actx_parse.specs.Tree.{Expr, Binary, SetMember, Function, Return, end, next}
-use Rattle.actx_parse.specs.Grammar.{deepest, level_of, sign_of, StartsStatement, StartsBody, Spells, sp_binary, sp_set_member, sp_short_arrow}
-use Rattle.actx_parse.specs.Parser.{Frame, in_binary, in_paren, in_call, in_form, in_set, in_object, in_arrow, in_value, in_item, in_return, in_test, in_list, levels, Settled, settled, settle}
-use Rattle.actx_parse.proofs.ParseDeeper.{deeper}
-use Rattle.actx_parse.proofs.ParseHeights.{level_in, level_small}
-use Rattle.actx_parse.proofs.ParseOpen.{Starts, starts, Opens, op_binary, op_set, op_arrow, place_on, opens_of, starts_of, Held, held_along}
+-- What settles at a level settles further at a lower one.
+use Rattle.std.proofs.Common.{◌≡◌, ℕ, zero, suc, ◌≤◌, List, [], ◌∷◌, Bool, true, false, cond, None, refl, sym, ◌∙◌, ap, arith}
+use Rattle.std.specs.Prelude.{nat_le, max}
+use Rattle.actx_ast.specs.declared.operators.LogicOp.{LogicOp}
+use Rattle.actx_ast.specs.declared.operators.LogicOp.TheVariants.{And, Or, Coalesce}
+use Rattle.actx_ast.specs.Forms.{level_of}
+use Rattle.actx_ast.specs.ParserOperands.{at_logic, logic, mixes, tighter, unmixed}
+use Rattle.actx_ast.specs.ParserState.{Limits, Move, refuse, Frame, in_unary, in_await, in_binary, in_logic, in_other, in_set_name, in_set, in_change, in_arrow, in_yield, in_yield_all, logic_level, Settled, settled, settle}
+use Rattle.actx_ast.proofs.ParseNames.{le_true, le_from}
+use Rattle.actx_ast.specs.Tree.{Expr, Unary, Binary, Logic, Choice, SetName, SetMember, Change, Function, Yield, YieldAll, Await, Return, some_expr, code, end, next}
 
--- LEVELS
-pub level_some : (op : BinaryOp) → 1 ≤ level_of op
-level_some o.Same = omega arith
-level_some o.Add = omega arith
-level_some o.Sub = omega arith
-level_some o.Mul = omega arith
+level_less : (op : LogicOp) → logic_level op ≤ tighter op
+level_less And = omega arith
+level_less Or = omega arith
+level_less Coalesce = omega arith
 
-level_in_some : (s : List Frame) → 1 ≤ level_in s
-level_in_some (in_binary op a r ∷ s) = omega arith
-level_in_some [] = omega arith
-level_in_some (f ∷ s) = omega arith
+-- settled once more
+abbrev pub again : ℕ → Settled → Settled
+again l (settled e r s) = settle l e r s
 
-pub level_in_small : (s : List Frame) → level_in s ≤ 9
-level_in_small (in_binary op a r ∷ s) = omega (arith, level_small op)
-level_in_small [] = omega arith
-level_in_small (f ∷ s) = omega arith
+le_less : (l k n : ℕ) → l ≤ k → nat_le k n ≡ true → nat_le l n ≡ true
+le_less l k n h t = le_true l n (omega (arith, le_from k n t))
 
--- FIRST TOKENS
-pub starts_statement : {s : List Frame} {x : List TokenKind} → Starts (in_value ∷ s) x → StartsStatement x
-starts_statement (starts {x = x} h) = h x
+-- a frame that binds at the higher level binds at the lower one
+ended : (l : ℕ) (b c : Bool) (x y z : Settled) → (b ≡ true → c ≡ true) → again l x ≡ y → again l z ≡ cond c y z → again l (cond b x z) ≡ cond c y z
+ended l true c x y z f h stays = let e : c ≡ true = f refl in h ∙ ap (λ d. cond d y z) (sym e)
+ended l false c x y z f h stays = stays
 
-starts_body : {s : List Frame} {xs : List (List ℕ)} {x : List TokenKind} → Starts (in_arrow xs ∷ s) x → StartsBody x
-starts_body (starts {x = x} h) = h x
+pub further : (l k : ℕ) (e : Expr) (r : ℕ) (s : List Frame) → l ≤ k → again l (settle k e r s) ≡ settle l e r s
+further l k e r (in_unary op ∷ s) h = ended l (nat_le k 9) (nat_le l 9) (settle k (Unary op e) r s) (settle l (Unary op e) r s) (settled e r (in_unary op ∷ s)) (le_less l k 9 h) (further l k (Unary op e) r s h) refl
+further l k e r (in_await ∷ s) h = ended l (nat_le k 9) (nat_le l 9) (settle k (Await e) r s) (settle l (Await e) r s) (settled e r (in_await ∷ s)) (le_less l k 9 h) (further l k (Await e) r s h) refl
+further l k e r (in_binary op a q ∷ s) h =
+    ended l (nat_le k (level_of op)) (nat_le l (level_of op)) (settle k (Binary op a e) (max q r) s) (settle l (Binary op a e) (max q r) s) (settled e r (in_binary op a q ∷ s)) (le_less l k (level_of op) h) (further l k (Binary op a e) (max q r) s h) refl
+further l k e r (in_logic op a q ∷ s) h =
+    ended l (nat_le k (logic_level op)) (nat_le l (logic_level op)) (settle k (Logic op a e) (max q r) s) (settle l (Logic op a e) (max q r) s) (settled e r (in_logic op a q ∷ s)) (le_less l k (logic_level op) h) (further l k (Logic op a e) (max q r) s h) refl
+further l k e r (in_other t y q ∷ s) h =
+    ended l (nat_le k 2) (nat_le l 2) (settle k (Choice t y e) (max q r) s) (settle l (Choice t y e) (max q r) s) (settled e r (in_other t y q ∷ s)) (le_less l k 2 h) (further l k (Choice t y e) (max q r) s h) refl
+further l k e r (in_set_name x ∷ s) h = ended l (nat_le k 1) (nat_le l 1) (settle k (SetName x e) r s) (settle l (SetName x e) r s) (settled e r (in_set_name x ∷ s)) (le_less l k 1 h) (further l k (SetName x e) r s h) refl
+further l k e r (in_set b key q ∷ s) h =
+    ended l (nat_le k 1) (nat_le l 1) (settle k (SetMember b key e) (max q r) s) (settle l (SetMember b key e) (max q r) s) (settled e r (in_set b key q ∷ s)) (le_less l k 1 h) (further l k (SetMember b key e) (max q r) s h) refl
+further l k e r (in_change x op ∷ s) h = ended l (nat_le k 1) (nat_le l 1) (settle k (Change x op e) r s) (settle l (Change x op e) r s) (settled e r (in_change x op ∷ s)) (le_less l k 1 h) (further l k (Change x op e) r s h) refl
+further l k e r (in_arrow kind xs ∷ s) h =
+    let f = Function (code None kind xs (next (Return (some_expr e)) end)) in
+    ended l (nat_le k 1) (nat_le l 1) (settle k f r s) (settle l f r s) (settled e r (in_arrow kind xs ∷ s)) (le_less l k 1 h) (further l k f r s h) refl
+further l k e r (in_yield ∷ s) h = ended l (nat_le k 1) (nat_le l 1) (settle k (Yield (some_expr e)) r s) (settle l (Yield (some_expr e)) r s) (settled e r (in_yield ∷ s)) (le_less l k 1 h) (further l k (Yield (some_expr e)) r s h) refl
+further l k e r (in_yield_all ∷ s) h = ended l (nat_le k 1) (nat_le l 1) (settle k (YieldAll e) r s) (settle l (YieldAll e) r s) (settled e r (in_yield_all ∷ s)) (le_less l k 1 h) (further l k (YieldAll e) r s h) refl
+further l k e r [] h = refl
+further l k e r (_ ∷ s) h = refl
 
--- OPERATIONS
-binary_made : {side : Side} {s : List Frame} {q x : List TokenKind} {op : BinaryOp} {a e : Expr} {j r m : ℕ} → Opens side (in_binary op a j ∷ s) q → Spells side (suc (level_of op)) m e x → m + levels (in_binary op a j ∷ s) ≤ r → r ≤ deepest side
-    → Held side (level_of op) (Binary op a e) (max j r) s (q ++ x)
-binary_made {x = x} {op = op} {m = m} (op_binary {p = p} {x = y} {n = n} at h c f w) d i v =
-    record {
-      before = p;
-      own = y ++ t.Sign (sign_of op) ∷ x;
-      height = suc (max n m);
-      place = place_on (t.Sign (sign_of op) ∷ x) at;
-      spells = sp_binary op (omega arith) (deeper c (omega arith) (omega arith)) (deeper d (omega arith) (omega arith));
-      all = simp append_assoc;
-      reach = omega arith;
-      within = omega arith;
-    }
+taken : (lim : Limits) (op : LogicOp) (b : Bool) (x y : Settled) → b ≡ false → x ≡ y → cond (cond b false true) (logic lim op x) refuse ≡ logic lim op y
+taken lim op true x y h e = absurd (cc)
+taken lim op false x y h e = ap (logic lim op) e
 
-set_made : {side : Side} {s : List Frame} {q x : List TokenKind} {b e : Expr} {key : List ℕ} {j r m : ℕ} → Opens side (in_set b key j ∷ s) q → Spells side 1 m e x → m + levels (in_set b key j ∷ s) ≤ r → r ≤ deepest side
-    → Held side 1 (SetMember b key e) (max j r) s (q ++ x)
-set_made {x = x} {key = key} {m = m} (op_set {p = p} {x = y} {n = n} at h c is_key f w) d i v =
-    record {
-      before = p;
-      own = y ++ t.Sign g.Dot ∷ t.Name key ∷ t.Sign g.Assign ∷ x;
-      height = suc (max n m);
-      place = place_on (t.Sign g.Dot ∷ t.Name key ∷ t.Sign g.Assign ∷ x) at;
-      spells = sp_set_member (omega arith) (deeper c (omega arith) (omega arith)) is_key (deeper d (omega arith) (omega arith));
-      all = simp append_assoc;
-      reach = omega arith;
-      within = omega arith;
-    }
-
-arrow_made : {side : Side} {s : List Frame} {q x : List TokenKind} {xs : List (List ℕ)} {e : Expr} {r m : ℕ} → Opens side (in_arrow xs ∷ s) q → Spells side 1 m e x → StartsBody x → m + levels (in_arrow xs ∷ s) ≤ r → r ≤ deepest side
-    → Held side 1 (Function Arrow xs (next (Return e) end)) r s (q ++ x)
-arrow_made {x = x} {m = m} (op_arrow {p = p} {x = y} at h params) d b i v =
-    record {
-      before = p;
-      own = y ++ t.Sign g.Arrow ∷ x;
-      height = suc (suc m);
-      place = place_on (t.Sign g.Arrow ∷ x) at;
-      spells = sp_short_arrow (omega arith) params d b;
-      all = simp append_assoc;
-      reach = omega arith;
-      within = v;
-    }
-
-binary_level : {side : Side} {s : List Frame} {q : List TokenKind} {op : BinaryOp} {a : Expr} {j : ℕ} → Opens side (in_binary op a j ∷ s) q → level_in s ≤ level_of op
-binary_level (op_binary at h c f w) = h
-
-set_level : {side : Side} {s : List Frame} {q : List TokenKind} {b : Expr} {key : List ℕ} {j : ℕ} → Opens side (in_set b key j ∷ s) q → level_in s ≤ 1
-set_level (op_set at h c is_key f w) = h
-
-arrow_level : {side : Side} {s : List Frame} {q : List TokenKind} {xs : List (List ℕ)} → Opens side (in_arrow xs ∷ s) q → level_in s ≤ 1
-arrow_level (op_arrow at h params) = h
-
--- the operand ends what it stands in
-binary_up : {side : Side} {l : ℕ} {op : BinaryOp} {a e : Expr} {j r : ℕ} {s : List Frame} {p : List TokenKind} → Held side l e r (in_binary op a j ∷ s) p → suc (level_of op) ≤ l → Held side (level_of op) (Binary op a e) (max j r) s p
-binary_up h m = held_along h.all (binary_made (opens_of h.place) (deeper h.spells (omega arith) m) h.reach h.within)
-
-set_up : {side : Side} {l : ℕ} {b e : Expr} {key : List ℕ} {j r : ℕ} {s : List Frame} {p : List TokenKind} → Held side l e r (in_set b key j ∷ s) p → 1 ≤ l → Held side 1 (SetMember b key e) (max j r) s p
-set_up h m = held_along h.all (set_made (opens_of h.place) (deeper h.spells (omega arith) m) h.reach h.within)
-
-arrow_up : {side : Side} {l : ℕ} {xs : List (List ℕ)} {e : Expr} {r : ℕ} {s : List Frame} {p : List TokenKind} → Held side l e r (in_arrow xs ∷ s) p → 1 ≤ l → Held side 1 (Function Arrow xs (next (Return e) end)) r s p
-arrow_up h m = held_along h.all (arrow_made (opens_of h.place) (deeper h.spells (omega arith) m) (starts_body (starts_of h.place)) h.reach h.within)
-
--- the operand with what it ended
-abbrev pub SettledAt : Side → ℕ → Settled → List TokenKind → Type 0
-SettledAt side k (settled e r s) p = (l : ℕ) × (k ≤ l) × (level_in s ≤ l) × (level_in s ≤ max 1 k) × Held side l e r s p
-
-pub settle_viable : {side : Side} (s : List Frame) (l k : ℕ) (e : Expr) (r : ℕ) (p : List TokenKind) → Held side l e r s p → k ≤ l → level_in s ≤ l → SettledAt side k (settle k e r s) p
-settle_viable {side} (in_binary op a j ∷ s) l k e r p h m i =
-    pick (nat_le k (level_of op)) refl (λ w. settle_viable s (level_of op) k (Binary op a e) (max j r) p (binary_up h i) w (binary_level (opens_of h.place)))
-  where
-    pick : (b : Bool) → nat_le k (level_of op) ≡ b → (k ≤ level_of op → SettledAt side k (settle k (Binary op a e) (max j r) s) p) → SettledAt side k (cond b (settle k (Binary op a e) (max j r) s) (settled e r (in_binary op a j ∷ s))) p
-    pick true q up = up (grind (arith, nat_tests))
-    pick false q up = let low : level_of op < k = grind (arith, nat_tests) in (l, m, i, omega arith, h)
-settle_viable {side} (in_set b key j ∷ s) l k e r p h m i =
-    pick (nat_le k 1) refl (λ w. settle_viable s 1 k (SetMember b key e) (max j r) p (set_up h i) w (set_level (opens_of h.place)))
-  where
-    pick : (c : Bool) → nat_le k 1 ≡ c → (k ≤ 1 → SettledAt side k (settle k (SetMember b key e) (max j r) s) p) → SettledAt side k (cond c (settle k (SetMember b key e) (max j r) s) (settled e r (in_set b key j ∷ s))) p
-    pick true q up = up (grind (arith, nat_tests))
-    pick false q up = (l, m, i, omega arith, h)
-settle_viable {side} (in_arrow xs ∷ s) l k e r p h m i =
-    pick (nat_le k 1) refl (λ w. settle_viable s 1 k (Function Arrow xs (next (Return e) end)) r p (arrow_up h i) w (arrow_level (opens_of h.place)))
-  where
-    pick : (c : Bool) → nat_le k 1 ≡ c → (k ≤ 1 → SettledAt side k (settle k (Function Arrow xs (next (Return e) end)) r s) p) → SettledAt side k (cond c (settle k (Function Arrow xs (next (Return e) end)) r s) (settled e r (in_arrow xs ∷ s))) p
-    pick true q up = up (grind (arith, nat_tests))
-    pick false q up = (l, m, i, omega arith, h)
-settle_viable [] l k e r p h m i = (l, m, i, omega arith, h)
-settle_viable (in_paren ∷ s) l k e r p h m i = (l, m, i, omega arith, h)
-settle_viable (in_call f es j ∷ s) l k e r p h m i = (l, m, i, omega arith, h)
-settle_viable (in_form form es j ∷ s) l k e r p h m i = (l, m, i, omega arith, h)
-settle_viable (in_object ps key j ∷ s) l k e r p h m i = (l, m, i, omega arith, h)
-settle_viable (in_value ∷ s) l k e r p h m i = (l, m, i, omega arith, h)
-settle_viable (in_item is x j ∷ s) l k e r p h m i = (l, m, i, omega arith, h)
-settle_viable (in_return ∷ s) l k e r p h m i = (l, m, i, omega arith, h)
-settle_viable (in_test ∷ s) l k e r p h m i = (l, m, i, omega arith, h)
-settle_viable (in_list owner ss j ∷ s) l k e r p h m i = (l, m, i, omega arith, h)
-
--- a whole expression, with all that it ended
-abbrev pub EndedAt : Side → Settled → List TokenKind → Type 0
-EndedAt side (settled e r s) p = Held side 1 e r s p
-
-ended_at : (side : Side) (q : Settled) (p : List TokenKind) → SettledAt side 0 q p → EndedAt side q p
-ended_at side (settled e r s) p h =
-    let some : 1 ≤ h.0 = omega (arith, h.2, level_in_some s) in
-    record { before = h.4.before; own = h.4.own; height = h.4.height; place = h.4.place; spells = deeper h.4.spells (omega arith) some; all = h.4.all; reach = h.4.reach; within = h.4.within }
-
-pub settle_ended : {side : Side} {l : ℕ} (e : Expr) (r : ℕ) (s : List Frame) (p : List TokenKind) → Held side l e r s p → level_in s ≤ l → EndedAt side (settle 0 e r s) p
-settle_ended {side} {l} e r s p h m = ended_at side (settle 0 e r s) p (settle_viable s l 0 e r p h (omega arith) m)
+-- an operand that settled as far as forms beside `??` bind settles on
+pub logic_further : (lim : Limits) (op : LogicOp) (e : Expr) (r : ℕ) (s : List Frame) (t l : ℕ) (f : Expr) (q : ℕ) (u : List Frame) (x : Settled)
+    → t ≡ tighter op → l ≡ logic_level op → settle t e r s ≡ settled f q u → mixes op u ≡ false → settle l f q u ≡ x → at_logic lim op (logic_level op) e r s ≡ logic lim op x
+logic_further lim op e r s t l f q u x i j a m b =
+    let a' : settle (tighter op) e r s ≡ settled f q u = ap (λ n. settle n e r s) (sym i) ∙ a in
+    let b' : settle (logic_level op) f q u ≡ x = ap (λ n. settle n f q u) (sym j) ∙ b in
+    let n : settle (logic_level op) e r s ≡ x = sym (further (logic_level op) (tighter op) e r s (level_less op)) ∙ ap (again (logic_level op)) a' ∙ b' in
+    ap (λ z. cond (unmixed op z) (logic lim op (settle (logic_level op) e r s)) refuse) a' ∙ taken lim op (mixes op u) (settle (logic_level op) e r s) x m n

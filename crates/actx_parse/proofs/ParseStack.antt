@@ -1,17 +1,20 @@
 -- The stack, whose last frame is the innermost, and lists that grow at their end.
 use Rattle.std.proofs.Common.{◌≡◌, ℕ, suc, ◌≤◌, ◌*◌, List, [], ◌∷◌, ◌++◌, length, ◌+◌, refl, ap, arith, ◌-◌, zero, Some, None}
 use Rattle.std.specs.Prelude.{slice_get}
-use Rattle.actx_parse.specs.Tree as t
-use Rattle.actx_parse.specs.Grammar.{count, with_last, with_item, with_property}
-use Rattle.actx_parse.specs.Parser as m
-use Rattle.actx_parse.specs.Parser.{with_stmt, levels, frame_levels}
-use Rattle.actx_parse.specs.View.{expr_view, exprs_view, item_view, items_view, properties_view, property_view, stmt_view, stmts_view}
+use Rattle.actx_ast.specs.declared.tree.Clause.{Clause}
+use Rattle.actx_ast.specs.declared.tree.ConstItem.{ConstItem}
+use Rattle.actx_ast.specs.declared.tree.Expr.{Expr}
+use Rattle.actx_ast.specs.declared.tree.LetItem.{LetItem}
+use Rattle.actx_ast.specs.declared.tree.Property.{Property}
+use Rattle.actx_ast.specs.declared.tree.Stmt.{Stmt}
+use Rattle.actx_ast.specs.Grammar.{count, with_last, with_let, with_const, with_property}
+use Rattle.actx_ast.specs.Parser.{with_stmt, with_clause}
+use Rattle.actx_ast.specs.ParserState as m
+use Rattle.actx_ast.specs.ParserState.{levels, frame_levels, role_levels}
+use Rattle.actx_ast.specs.Tree as t
+use Rattle.actx_ast.specs.View.{expr_view, exprs_view, const_view, consts_view, let_view, lets_view, property_view, properties_view, stmt_view, stmts_view, clause_view, clauses_view}
 use Rattle.actx_parse.specs.ParserView.{frame_view, onto, stack_view}
 use Rattle.actx_parse.specs.declared.parse.state.Frame.{Frame}
-use Rattle.actx_parse.specs.declared.tree.Expr.{Expr}
-use Rattle.actx_parse.specs.declared.tree.ConstItem.{ConstItem}
-use Rattle.actx_parse.specs.declared.tree.Property.{Property}
-use Rattle.actx_parse.specs.declared.tree.Stmt.{Stmt}
 
 pub onto_last : (xs : List Frame) (x : Frame) (s : List Frame) → onto (xs ++ x ∷ []) s ≡ x ∷ onto xs s
 onto_last [] x s = refl
@@ -29,9 +32,13 @@ pub count_last : (es : t.Exprs) (e : t.Expr) → count (with_last es e) ≡ suc 
 count_last t.none e = refl
 count_last (t.also f es) e = ap suc (count_last es e)
 
-pub item_more : (is : List ConstItem) (i : ConstItem) → items_view (is ++ i ∷ []) ≡ with_item (items_view is) (item_view i).0 (item_view i).1
-item_more [] i = refl
-item_more (j ∷ is) i = ap (t.item (item_view j).0 (item_view j).1) (item_more is i)
+pub let_more : (is : List LetItem) (i : LetItem) → lets_view (is ++ i ∷ []) ≡ with_let (lets_view is) (let_view i).0 (let_view i).1
+let_more [] i = refl
+let_more (j ∷ is) i = ap (t.let_item (let_view j).0 (let_view j).1) (let_more is i)
+
+pub const_more : (is : List ConstItem) (i : ConstItem) → consts_view (is ++ i ∷ []) ≡ with_const (consts_view is) (const_view i).0 (const_view i).1
+const_more [] i = refl
+const_more (j ∷ is) i = ap (t.const_item (const_view j).0 (const_view j).1) (const_more is i)
 
 pub property_more : (ps : List Property) (p : Property) → properties_view (ps ++ p ∷ []) ≡ with_property (properties_view ps) (property_view p).0 (property_view p).1
 property_more [] p = refl
@@ -41,28 +48,25 @@ pub stmt_more : (ss : List Stmt) (st : Stmt) → stmts_view (ss ++ st ∷ []) �
 stmt_more [] st = refl
 stmt_more (sa ∷ ss) st = ap (t.next (stmt_view sa)) (stmt_more ss st)
 
+pub clause_more : (cs : List Clause) (c : Clause) → clauses_view (cs ++ c ∷ []) ≡ with_clause (clauses_view cs) (clause_view c).0 (clause_view c).1
+clause_more [] c = refl
+clause_more (d ∷ cs) c = ap (t.clause (clause_view d).0 (clause_view d).1) (clause_more cs c)
+
 -- no frame makes more than two levels
+head_levels : (h : m.Head) → role_levels h ≤ 2
+head_levels (m.function_head (m.method ps key r) kind x) = omega arith
+head_levels (m.function_head _ kind x) = omega arith
+head_levels (m.arrow_head kind) = omega arith
+
 owner_levels : (o : m.ListOwner) (ss : t.Stmts) (r : ℕ) → frame_levels (m.in_list o ss r) ≤ 2
 owner_levels m.program ss r = omega arith
-owner_levels (m.body kind xs) ss r = omega arith
-owner_levels m.block ss r = omega arith
-owner_levels (m.branch e) ss r = omega arith
-owner_levels m.tried ss r = omega arith
-owner_levels (m.last bs) ss r = omega arith
+owner_levels (m.body h xs) ss r = head_levels h
+owner_levels _ ss r = omega arith
 
 few_levels : (f : m.Frame) → frame_levels f ≤ 2
 few_levels (m.in_list o ss r) = owner_levels o ss r
-few_levels (m.in_arrow xs) = omega arith
-few_levels (m.in_binary op e r) = omega arith
-few_levels m.in_paren = omega arith
-few_levels (m.in_call e es r) = omega arith
-few_levels (m.in_form form es r) = omega arith
-few_levels (m.in_set e key r) = omega arith
-few_levels (m.in_object ps key r) = omega arith
-few_levels m.in_value = omega arith
-few_levels (m.in_item is x r) = omega arith
-few_levels m.in_return = omega arith
-few_levels m.in_test = omega arith
+few_levels (m.in_arrow kind xs) = omega arith
+few_levels _ = omega arith
 
 levels_onto : (xs s : List Frame) → levels (stack_view (onto xs s)) ≤ 2 * length xs + levels (stack_view s)
 levels_onto [] s = omega arith

@@ -6,7 +6,7 @@ use Rattle.std.specs.List.{position_or_len}
 use Rattle.std.specs.Map.{lookup}
 use Rattle.indexmap.specs.IndexMap.{insert_entry}
 use Rattle.actx_data.specs.declared.value.Value.{Value}
-use Rattle.actx_parse.specs.Lexical.{same_text}
+use Rattle.actx_top.specs.Texts.{same_text}
 use Rattle.actx_top.specs.State.{Cell, cell_of, set_cell, with_cell, given_cell, or_else}
 use Rattle.actx_top.specs.Cells.{cell_in, named_cell, slot_of}
 use Rattle.actx_top.specs.View.{standing_of}

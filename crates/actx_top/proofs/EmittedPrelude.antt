@@ -1,56 +1,126 @@
 -- The prelude is spelled by its own tokens on the plain side: they parse to it, and what is parsed is spelled.
-use Rattle.std.proofs.Common.{◌≡◌, ℕ, List, [], ◌∷◌, Bool, true, false, Some, refl, arith}
-use Rattle.std.specs.Prelude.{◌&&◌, nat_le, IsTrue}
-use Rattle.std.specs.List.{AllByRecursion}
+use Rattle.std.proofs.Common.{◌≡◌, ◌≢◌, ℕ, ◌≤◌, ◌<◌, List, [], ◌∷◌, Bool, true, false, refl, sym, ap, ◌∙◌, inl, inr, arith, lit≤}
+use Rattle.std.specs.Prelude.{◌&&◌, ◌||◌, nat_le, nat_lt, IsTrue, All}
+use Rattle.std.proofs.lemmas.Bool.{or_cases}
 use Rattle.std.proofs.lemmas.Bool.Decides.{nat_tests}
-use Rattle.std.proofs.lemmas.List.Elements.{All-from_recursion}
-use Rattle.actx_parse.specs.declared.side.Side.TheVariants.{Plain}
-use Rattle.actx_parse.specs.declared.token.TokenKind.{TokenKind}
-use Rattle.actx_parse.specs.declared.token.TokenKind.TheVariants as t
-use Rattle.actx_parse.specs.Lexical.{IsName, is_name_part, is_name_start, is_text_char, greatest_number, HasForm}
-use Rattle.actx_parse.specs.Grammar.{IsSpelled}
-use Rattle.actx_parse.specs.Parser.{parse}
-use Rattle.actx_parse.specs.Spell.{spell_program}
-use Rattle.actx_parse.proofs.ParseTests.{and_left, and_right}
-use Rattle.actx_parse.proofs.ParseSound.{sound}
-use Rattle.actx_top.proofs.EmittedNames.{all_pass, passes, is_free, is_name, no_reserved}
-use Rattle.actx_top.specs.Prelude.{prelude}
+use Rattle.std.proofs.lemmas.List.Elements.{All-nil, All-cons}
+use Rattle.actx_ast.specs.declared.side.Side.TheVariants.{Plain}
+use Rattle.actx_ast.specs.declared.token.Keyword.{Keyword}
+use Rattle.actx_ast.specs.declared.token.Keyword.TheVariants as k
+use Rattle.actx_ast.specs.declared.token.TokenKind.{TokenKind}
+use Rattle.actx_ast.specs.declared.token.TokenKind.TheVariants as t
+use Rattle.actx_ast.specs.Depth.{depth_program}
+use Rattle.actx_ast.specs.Exact.{InForm}
+use Rattle.actx_ast.specs.Grammar.{IsSpelled}
+use Rattle.actx_ast.specs.Layout.{laid}
+use Rattle.actx_ast.specs.Lexemes.{Lexeme}
+use Rattle.actx_ast.specs.Names.{IsReference}
+use Rattle.actx_ast.specs.Parser.{parse, parsed}
+use Rattle.actx_ast.specs.Sides.{StmtsOn}
+use Rattle.actx_ast.specs.Spell.{spell_program, word_token}
+use Rattle.actx_ast.specs.Words.{IsName, is_name_part, HasForm, keyword_text, greatest_number}
+use Rattle.actx_ast.proofs.SideReads.{stmts_on}
+use Rattle.actx_ast.proofs.ViableParsed.{spells}
+use Rattle.actx_ast.proofs.ViableTests.{and_left, and_right, binding_is}
+use Rattle.actx_lex.specs.Characters.{is_digit}
+use Rattle.actx_lex.proofs.Classes.{is_letter, letter_start, start_part, digit_part}
+use Rattle.actx_top.specs.Prelude.{name_variable, prelude}
+
+-- NAMES OF LETTERS AND DIGITS
+abbrev is_plain : ℕ → Bool
+is_plain c = is_letter c || is_digit c
+
+plain_part : (c : ℕ) → is_plain c ≡ true → IsTrue (is_name_part c)
+plain_part c h =
+    elim (or_cases (is_letter c) (is_digit c) h) [
+      | inl e ↦ start_part c (letter_start c e)
+      | inr e ↦ digit_part c e
+    ]
+
+abbrev are_plain : List ℕ → Bool
+are_plain [] = true
+are_plain (c ∷ cs) = is_plain c && are_plain cs
+
+parts_pass : (cs : List ℕ) → are_plain cs ≡ true → All (λ c. IsTrue (is_name_part c)) cs
+parts_pass [] h = All-nil (λ c. IsTrue (is_name_part c))
+parts_pass (c ∷ cs) h = All-cons (λ d. IsTrue (is_name_part d)) c cs (plain_part c (and_left (is_plain c) (are_plain cs) h)) (parts_pass cs (and_right (is_plain c) (are_plain cs) h))
+
+-- which reserved words there are
+keyword_again : (w : Keyword) → word_token (keyword_text w) ≡ t.Keyword w
+keyword_again k.Async = refl
+keyword_again _ = refl
+
+abbrev is_free : TokenKind → Bool
+is_free (t.Name x) = true
+is_free _ = false
+
+free_name : (x : List ℕ) → is_free (word_token x) ≡ true → (w : Keyword) → x ≢ keyword_text w
+free_name x h w e = let no : true ≡ false = sym h ∙ ap is_free (ap word_token e ∙ keyword_again w) in absurd (cc)
+
+abbrev is_name : List ℕ → Bool
+is_name [] = false
+is_name (c ∷ cs) = is_letter c && (are_plain cs && is_free (word_token (c ∷ cs)))
+
+pub name_is : (x : List ℕ) → is_name x ≡ true → IsName x
+name_is [] h = absurd (cc)
+name_is (c ∷ cs) h =
+    let behind : (are_plain cs && is_free (word_token (c ∷ cs))) ≡ true = and_right (is_letter c) (are_plain cs && is_free (word_token (c ∷ cs))) h in
+    record { first = c; more = cs; is = refl; starts = letter_start c (and_left (is_letter c) (are_plain cs && is_free (word_token (c ∷ cs))) h); goes_on = parts_pass cs (and_left (are_plain cs) (is_free (word_token (c ∷ cs))) behind); free = free_name (c ∷ cs) (and_right (are_plain cs) (is_free (word_token (c ∷ cs))) behind) }
 
 -- TOKENS OF THEIR FORMS
-pub name_is : (x : List ℕ) → is_name x ≡ true → IsName x
-name_is [] h = let no : false ≡ true = h in absurd (cc)
-name_is (c ∷ cs) h =
-    let behind : (all_pass is_name_part cs && is_free (c ∷ cs)) ≡ true = and_right (is_name_start c) (all_pass is_name_part cs && is_free (c ∷ cs)) h in
-    record { first = c; more = cs; is = refl; starts = and_left (is_name_start c) (all_pass is_name_part cs && is_free (c ∷ cs)) h; goes_on = All-from_recursion (λ a. IsTrue (is_name_part a)) cs (passes is_name_part cs (and_left (all_pass is_name_part cs) (is_free (c ∷ cs)) behind)); free = no_reserved (c ∷ cs) (and_right (all_pass is_name_part cs) (is_free (c ∷ cs)) behind) }
+abbrev are_units : List ℕ → Bool
+are_units [] = true
+are_units (u ∷ us) = nat_lt u 65536 && are_units us
+
+units_are : (us : List ℕ) → are_units us ≡ true → All (λ u. u < 65536) us
+units_are [] h = All-nil (λ u. u < 65536)
+units_are (u ∷ us) h = All-cons (λ c. c < 65536) u us (small (and_left (nat_lt u 65536) (are_units us) h)) (units_are us (and_right (nat_lt u 65536) (are_units us) h))
+  where
+    small : nat_lt u 65536 ≡ true → u < 65536
+    small q = grind (arith, nat_tests)
 
 abbrev has_form : TokenKind → Bool
 has_form (t.Name x) = is_name x
 has_form (t.Keyword w) = true
 has_form (t.Number n) = nat_le n greatest_number
-has_form (t.Text cs) = all_pass is_text_char cs
+has_form (t.Text us) = are_units us
 has_form (t.Sign s) = true
 
 form_is : (u : TokenKind) → has_form u ≡ true → HasForm u
 form_is (t.Name x) h = name_is x h
 form_is (t.Keyword w) h = tt
 form_is (t.Number n) h = grind (arith, nat_tests)
-form_is (t.Text cs) h = All-from_recursion (λ c. IsTrue (is_text_char c)) cs (passes is_text_char cs h)
+form_is (t.Text us) h = units_are us h
 form_is (t.Sign s) h = tt
 
-abbrev have_form : List TokenKind → Bool
+abbrev have_form : List Lexeme → Bool
 have_form [] = true
-have_form (u ∷ us) = has_form u && have_form us
+have_form (l ∷ ls) = has_form l.kind && have_form ls
 
-forms_are : (us : List TokenKind) → have_form us ≡ true → AllByRecursion HasForm us
-forms_are [] h = tt
-forms_are (u ∷ us) h = (form_is u (and_left (has_form u) (have_form us) h), forms_are us (and_right (has_form u) (have_form us) h))
+forms_are : (ls : List Lexeme) → have_form ls ≡ true → InForm ls
+forms_are [] h = All-nil (λ l. HasForm l.kind)
+forms_are (l ∷ ls) h = All-cons (λ l. HasForm l.kind) l ls (form_is l.kind (and_left (has_form l.kind) (have_form ls) h)) (forms_are ls (and_right (has_form l.kind) (have_form ls) h))
 
 -- THE PRELUDE
-prelude_parsed : parse Plain (spell_program prelude) ≡ Some prelude
+abbrev tokens : List Lexeme
+tokens = laid (spell_program prelude)
+
+prelude_parsed : parse Plain tokens ≡ parsed prelude
 prelude_parsed = refl
 
-prelude_forms : have_form (spell_program prelude) ≡ true
+prelude_forms : have_form tokens ≡ true
 prelude_forms = refl
 
-pub prelude_spelled : IsSpelled Plain prelude (spell_program prelude)
-prelude_spelled = sound (spell_program prelude) prelude (All-from_recursion HasForm (spell_program prelude) (forms_are (spell_program prelude) prelude_forms)) prelude_parsed
+prelude_spelled : IsSpelled Plain prelude tokens
+prelude_spelled = spells Plain prelude tokens (forms_are tokens prelude_forms) prelude_parsed
+
+pub prelude_on : StmtsOn Plain prelude
+prelude_on = stmts_on prelude_spelled
+
+-- it goes no deeper than this
+pub prelude_deep : depth_program prelude ≤ 100
+prelude_deep = lit≤ tt
+
+-- the function that makes a variable
+pub variable_named : IsReference Plain name_variable
+variable_named = let b = binding_is Plain name_variable (name_is name_variable refl) refl in record { name = b.name; own = b.own; not_undefined = λ e. absurd (cc) }

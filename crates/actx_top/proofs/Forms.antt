@@ -1,17 +1,18 @@
 -- Built-in forms of a plain program.
-use Rattle.std.proofs.Common.{◌≡◌, suc, length, List, [], ◌∷◌, Some, None, Bool, true, false, refl, ap, if◌then◌else◌}
+use Rattle.std.proofs.Common.{◌≡◌, ℕ, suc, ◌≤◌, length, List, [], ◌∷◌, Some, None, Bool, true, false, refl, ap, if◌then◌else◌, arith}
 use Rattle.std.specs.Prelude.{◌&&◌}
 use Rattle.actx_data.specs.declared.end.End.TheVariants.{Left}
-use Rattle.actx_parse.specs.declared.side.Side.TheVariants.{Plain}
-use Rattle.actx_parse.specs.declared.tree.Expr.{Expr}
-use Rattle.actx_parse.specs.declared.tree.Form.{Form}
-use Rattle.actx_parse.specs.Grammar.{count}
-use Rattle.actx_parse.specs.Parser.{suits}
-use Rattle.actx_parse.specs.Tree.{Exprs}
-use Rattle.actx_parse.specs.View.{exprs_view}
+use Rattle.actx_ast.specs.declared.side.Side.TheVariants.{Plain}
+use Rattle.actx_ast.specs.declared.tree.Expr.{Expr}
+use Rattle.actx_ast.specs.declared.operators.Form.{Form}
+use Rattle.actx_ast.specs.Grammar.{count}
+use Rattle.actx_ast.specs.ParserOperands.{suits}
+use Rattle.actx_ast.specs.Tree.{Exprs}
+use Rattle.actx_ast.specs.View.{exprs_view}
 use Rattle.actx_top.specs.Machine.{has_form, eval_form, eval_parts}
 use Rattle.actx_top.specs.MachineView.{form_of}
 use Rattle.actx_top.specs.State as m
+use Rattle.actx_top.specs.Taken.{untaken_options}
 use Rattle.actx_top.specs.declared.machine.PlainForm.{PlainForm}
 
 pub count_is : (es : List Expr) → count (exprs_view es) ≡ length es
@@ -31,3 +32,9 @@ form_stops form es fs s h = by_test (has_form Plain form && suits form (count es
     by_test : (b : Bool) → None ≡ (if b then Some form else None) → m.Stops Left ≡ (if b then eval_parts Plain (m.BuiltIn form) [] es fs s else m.Stops Left)
     by_test true g = absurd cc
     by_test false g = refl
+
+-- two parts and more are no options of a variable
+pub two_options : (n : ℕ) (xs : List Expr) → 2 ≤ length xs → untaken_options n (exprs_view xs) ≡ Some n
+two_options n [] h = absurd (omega (arith, h))
+two_options n (x ∷ []) h = absurd (omega (arith, h))
+two_options n (x ∷ y ∷ xs) h = refl

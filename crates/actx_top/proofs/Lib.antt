@@ -18,4 +18,9 @@ pub mod Same
 pub mod Sample
 pub mod Whole
 pub mod Readable
-pub mod Taken
+pub mod Boundaries
+pub mod Untaken
+pub mod Placed
+pub mod Reading
+pub mod Refusing
+pub mod Reasons

@@ -6,14 +6,15 @@ use Rattle.actx_data.specs.declared.shown.Shown.TheVariants as h
 use Rattle.actx_data.specs.declared.shown.ErrorName.TheVariants.{TypeError}
 use Rattle.actx_data.specs.declared.trace.TraceEvent.{TraceEvent}
 use Rattle.actx_data.specs.declared.trace.TraceEvent.TheVariants as e
-use Rattle.actx_parse.specs.declared.side.Side.{Side}
-use Rattle.actx_parse.specs.declared.side.Side.TheVariants.{Source, Plain}
-use Rattle.actx_parse.specs.declared.tree.Form.TheVariants.{Log, NewVariable}
-use Rattle.actx_parse.specs.declared.tree.FunctionKind.TheVariants.{Arrow}
-use Rattle.actx_parse.specs.Tree.{Expr, Num, Text, Named, Member, Call, Object, Function, Built, none, also, property, no_properties, item, no_items, Stmt, Const, Value, Return, Stmts, end, next}
+use Rattle.actx_ast.specs.declared.side.Side.{Side}
+use Rattle.actx_ast.specs.declared.side.Side.TheVariants.{Source, Plain}
+use Rattle.actx_ast.specs.declared.operators.Form.TheVariants.{Log, NewVariable}
+use Rattle.actx_ast.specs.declared.operators.FunctionKind.TheVariants.{Arrow}
+use Rattle.actx_ast.specs.Tree.{Expr, Num, Text, Named, Call, Built, none, also, some_expr, no_properties, Object, Stmt, Const, Value, Return, Stmts, end, next}
 use Rattle.actx_top.specs.State.{Task, ExecList, Frame, Store, State, Move, Goes, Writes, Stops}
 use Rattle.actx_top.specs.Machine.{row, at, stopped, no_store, first_heap}
 use Rattle.actx_top.specs.Low.{low}
+use Rattle.actx_top.specs.Prelude.{const, member, keyed, returns, function_of}
 
 abbrev after_move : Move → (Task → List Frame → Store → List TraceEvent → State) → List TraceEvent → State
 after_move (Goes t fs s) k tr = k t fs s tr
@@ -28,18 +29,18 @@ abbrev v : Expr
 v = Named (codes "v")
 
 abbrev logged : Expr
-logged = Built Log (also (Call (Member v (codes "get")) none) none)
+logged = Built Log (also (Call (member v (codes "get")) none) none)
 
 abbrev inner : Stmt
-inner = Value (Call (Member v (codes "run")) (also (Text (codes "b")) (also (Function Arrow [] (next (Return logged) end)) none)))
+inner = Value (Call (member v (codes "run")) (also (Text (codes "b")) (also (function_of Arrow [] (next (returns logged) end)) none)))
 
 abbrev outer : Stmt
-outer = Value (Call (Member v (codes "run")) (also (Text (codes "a")) (also (Function Arrow [] (next (Value logged) (next inner (next (Value logged) end)))) none)))
+outer = Value (Call (member v (codes "run")) (also (Text (codes "a")) (also (function_of Arrow [] (next (Value logged) (next inner (next (Value logged) end)))) none)))
 
 abbrev sample : Stmts
 sample =
-    next (Const (item (codes "v") (Built NewVariable (also (Object (property (codes "defaultValue") (Text (codes "d")) no_properties)) none)) no_items))
-    (next (Value logged) (next outer (next (Value logged) (next (Value (Call (Member v (codes "run")) (also (Num 1) none))) end))))
+    next (const (codes "v") (Built NewVariable (also (Object (keyed (codes "defaultValue") (Text (codes "d")) no_properties)) none)))
+    (next (Value logged) (next outer (next (Value logged) (next (Value (Call (member v (codes "run")) (also (Num 1) none))) end))))
 
 abbrev wrote : List ℕ → List TraceEvent
 wrote u = e.Get 1 (h.Text u) ∷ e.Out u ∷ []

@@ -1,11 +1,11 @@
 -- Lists of statements and expressions with one more at their end.
 use Rattle.std.proofs.Common.{◌≡◌, List, [], ◌∷◌, ◌++◌, refl, ap}
-use Rattle.actx_parse.specs.Tree as t
-use Rattle.actx_parse.specs.Grammar.{with_last}
-use Rattle.actx_parse.specs.Parser.{with_stmt}
-use Rattle.actx_parse.specs.View.{expr_view, exprs_view, stmt_view, stmts_view}
-use Rattle.actx_parse.specs.declared.tree.Expr.{Expr}
-use Rattle.actx_parse.specs.declared.tree.Stmt.{Stmt}
+use Rattle.actx_ast.specs.Tree as t
+use Rattle.actx_ast.specs.Grammar.{with_last}
+use Rattle.actx_ast.specs.Parser.{with_stmt}
+use Rattle.actx_ast.specs.View.{expr_view, exprs_view, stmt_view, stmts_view}
+use Rattle.actx_ast.specs.declared.tree.Expr.{Expr}
+use Rattle.actx_ast.specs.declared.tree.Stmt.{Stmt}
 
 pub statement_last : (xs : List Stmt) (x : Stmt) → stmts_view (xs ++ x ∷ []) ≡ with_stmt (stmts_view xs) (stmt_view x)
 statement_last [] x = refl

@@ -8,7 +8,7 @@ use Rattle.indexmap.specs.IndexMap.{insert_entry}
 use Rattle.indexmap.specs.IndexSet.{insert_key}
 use Rattle.actx_data.specs.declared.value.Value.TheVariants as v
 use Rattle.actx_data.specs.declared.value.Value.{Value}
-use Rattle.actx_parse.specs.Lexical.{same_text}
+use Rattle.actx_top.specs.Texts.{same_text}
 use Rattle.actx_top.specs.Properties.{prop_of, with_prop, entry_of, with_entry, place_in, is_in, more_shown}
 use Rattle.actx_top.specs.Cells.{prop_in, entry_in}
 

@@ -1,5 +1,5 @@
 -- The answers of the top call, and when each comes.
-use Rattle.std.specs.Prelude.{◌≡◌, ℕ, Bool, false, ◌==◌, ◌&&◌, not, ◌⊎◌, List, [], ◌∷◌, ◌++◌, Option, codes, decimal}
+use Rattle.std.specs.Prelude.{◌≡◌, ℕ, Bool, false, ◌==◌, ◌⊎◌, List, [], ◌∷◌, ◌++◌, Option, Some, None, codes, decimal, if◌then◌else◌}
 use Rattle.std.specs.Char.Utf16.{utf16_lossy_chars}
 use Rattle.std.specs.Fmt.{signed_decimal}
 use Rattle.std.specs.Str.{encode_utf8_all}
@@ -11,9 +11,13 @@ use Rattle.actx_data.specs.declared.end.End.TheVariants.{Going, Ended, Threw, Le
 use Rattle.actx_data.specs.declared.shown.Shown.{Shown}
 use Rattle.actx_data.specs.declared.shown.Shown.TheVariants as h
 use Rattle.actx_data.specs.declared.trace.TraceEvent.{TraceEvent}
-use Rattle.actx_parse.specs.Lexical.{same_text}
-use Rattle.actx_parse.specs.Tree.{Stmts}
+use Rattle.actx_top.specs.Texts.{same_text}
+use Rattle.actx_ast.specs.Tree.{Stmts}
+use Rattle.actx_top.specs.Headline.{emitted}
 use Rattle.actx_top.specs.Low.{low}
+use Rattle.actx_top.specs.Refusals.{RefusedAt}
+use Rattle.actx_top.specs.declared.mode.Mode.{Mode}
+use Rattle.actx_top.specs.declared.mode.Mode.TheVariants.{Lower, Run}
 use Rattle.actx_top.specs.Operators.{truth_text}
 use Rattle.actx_top.specs.Properties.{error_text}
 use Rattle.actx_top.specs.Meaning.{target_shows, lines_of}
@@ -23,9 +27,13 @@ abbrev pub begins_with_dash : List ℕ → Bool
 begins_with_dash [] = false
 begins_with_dash (c ∷ cs) = c == 45
 
-abbrev pub is_command : List (List ℕ) → Bool
-is_command (mode ∷ file ∷ []) = same_text mode (codes "run") && not (begins_with_dash file)
-is_command _ = false
+abbrev pub mode_named : List ℕ → Option Mode
+mode_named word = if same_text word (codes "run") then Some Run else (if same_text word (codes "lower") then Some Lower else None)
+
+-- the mode of a command line; none where the words are no command line
+abbrev pub command_of : List (List ℕ) → Option Mode
+command_of (mode ∷ file ∷ []) = if begins_with_dash file then None else mode_named mode
+command_of _ = None
 
 -- the second word
 abbrev pub file_of : List (List ℕ) → List ℕ
@@ -47,20 +55,29 @@ status_of (Threw v) = 1
 status_of Left = 4
 status_of Going = 5
 
--- what a run with these lines, whose end has this status, makes of the answer and the output
+-- THE MODES: what each writes, and its status where all is written
+abbrev pub status_in : Mode → Stmts → ℕ
+status_in Lower p = 0
+status_in Run p = status_of (run_shows p).end
+
+abbrev pub output_in : Mode → Stmts → List ℕ
+output_in Lower p = emitted p
+output_in Run p = lines_of (run_shows p).trace
+
+-- what an output whose status is this one makes of the answer
 pub record Wrote (answer status : ℕ) (lines : List ℕ) (before after : Option (List ℕ)) : Type 0 where
-  -- the answer is the status of the run's end, or the output couldn't be written, or memory was wanting
+  -- the answer is the status, or the output couldn't be written, or memory was wanting
   pub cause : (answer ≡ status) ⊎ ((answer ≡ 7) ⊎ (answer ≡ 70))
   -- at that status all lines were written
   pub whole : answer ≡ status → AddsAll before lines after
   -- at every answer some first part of them was
   pub part : AddsPart before lines after
 
--- what an accepted program makes of the answer and the output, or its file couldn't be read
-pub record Ran (answer : ℕ) (p : Stmts) (before after : Option (List ℕ)) : Type 0 where
-  pub cause : (answer ≡ status_of (run_shows p).end) ⊎ ((answer ≡ 6) ⊎ ((answer ≡ 7) ⊎ (answer ≡ 70)))
-  pub whole : answer ≡ status_of (run_shows p).end → AddsAll before (lines_of (run_shows p).trace) after
-  pub part : AddsPart before (lines_of (run_shows p).trace) after
+-- what a program makes of the answer and the output in a mode, or its file couldn't be read
+pub record Did (answer : ℕ) (mode : Mode) (p : Stmts) (before after : Option (List ℕ)) : Type 0 where
+  pub cause : (answer ≡ status_in mode p) ⊎ ((answer ≡ 6) ⊎ ((answer ≡ 7) ⊎ (answer ≡ 70)))
+  pub whole : answer ≡ status_in mode p → AddsAll before (output_in mode p) after
+  pub part : AddsPart before (output_in mode p) after
 
 -- SHOWN VALUES
 -- the UTF-8 of units, with U+FFFD for a surrogate without its partner, as a JSON string
@@ -80,7 +97,7 @@ shown_text (h.Failure n name message) = codes "#" ++ (decimal n ++ (codes " " ++
 -- FAULT LINES
 pub data Fault : Type 0 where
   BadWords : Fault
-  NotYet : (file : List ℕ) → Fault
+  Refused : (file : List ℕ) (number line column : ℕ) → Fault
   ThrewValue : (shown : Shown) → Fault
   LeftProfile : Fault
   StillGoing : Fault
@@ -88,9 +105,26 @@ pub data Fault : Type 0 where
   CannotWrite : Fault
   OutOfMemory : Fault
 
+-- the name of a refusal
+abbrev pub refusal_name : ℕ → List ℕ
+refusal_name n =
+    if n == 1 then codes "NotUtf8"
+    else (if n == 2 then codes "BadToken"
+    else (if n == 3 then codes "TooLong"
+    else (if n == 4 then codes "BadNumber"
+    else (if n == 5 then codes "Unexpected"
+    else (if n == 6 then codes "TooDeep"
+    else (if n == 7 then codes "TooMany"
+    else (if n == 8 then codes "Undeclared"
+    else (if n == 9 then codes "Twice"
+    else (if n == 10 then codes "Reserved"
+    else (if n == 11 then codes "Misplaced"
+    else codes "NotYet"))))))))))
+
 abbrev pub fault_line : Fault → List ℕ
 fault_line BadWords = codes "actx: usage: actx MODE [FILE] [--events FILE] [--steps N] [--seed N] [--count N]\n"
-fault_line (NotYet file) = codes "actx: " ++ (file ++ codes ":1:1: 13 NotYet\n")
+fault_line (Refused file number line column) =
+    codes "actx: " ++ (file ++ (codes ":" ++ (decimal line ++ (codes ":" ++ (decimal column ++ (codes ": " ++ (decimal number ++ (codes " " ++ (refusal_name number ++ codes "\n")))))))))
 fault_line (ThrewValue shown) = codes "actx: threw " ++ (shown_text shown ++ codes "\n")
 fault_line LeftProfile = codes "actx: left the profile\n"
 fault_line StillGoing = codes "actx: still going after 20000000 steps\n"
@@ -101,7 +135,7 @@ fault_line OutOfMemory = codes "actx: out of memory\n"
 -- the status of a fault
 abbrev pub fault_status : Fault → ℕ
 fault_status BadWords = 2
-fault_status (NotYet file) = 3
+fault_status (Refused file number line column) = 3
 fault_status (ThrewValue shown) = 1
 fault_status LeftProfile = 4
 fault_status StillGoing = 5
@@ -111,7 +145,7 @@ fault_status OutOfMemory = 70
 
 -- a fault names the file, where it names one
 abbrev pub IsAbout : Fault → List ℕ → Type 0
-IsAbout (NotYet name) file = name ≡ file
+IsAbout (Refused name number line column) file = name ≡ file
 IsAbout (CannotRead name) file = name ≡ file
 IsAbout _ file = Unit {0}
 
@@ -130,6 +164,14 @@ pub record TellsThrow (end : End) (before after : Option (List ℕ)) (count_befo
   pub shown : Shown
   pub threw : end ≡ Threw shown
   pub tells : Tells (ThrewValue shown) before after count_before count_after
+
+-- where a text was refused, the line tells the number of its refusal and its place
+pub record TellsRefusal (file text : List ℕ) (before after : Option (List ℕ)) (count_before count_after : ℕ) : Type 0 where
+  pub number : ℕ
+  pub line : ℕ
+  pub column : ℕ
+  pub refused : RefusedAt text number line column
+  pub tells : Tells (Refused file number line column) before after count_before count_after
 
 -- what is told at a status: nothing at 0, the status's own line, and at 70 some first part of one line
 abbrev pub Explains : ℕ → List ℕ → (before after : Option (List ℕ)) → (count_before count_after : ℕ) → Type 0

@@ -1,19 +1,20 @@
 -- THE HEADLINE
--- For every accepted program and every list of host events, the emitted text parses as the plain subset, and the two
+-- For every accepted program whose forms run and every list of host events, the emitted text parses as the plain subset, and the two
 -- runs match in both directions: for every bound on the steps of the one there is a bound of the other with the same
 -- trace (the lines printed and the values read from variables) and the same end (going, ended, threw or left the
 -- profile).
-use Rattle.std.specs.Prelude.{ℕ, List}
-use Rattle.actx_parse.specs.Accepts.{Accepts, ReadsPlain}
-use Rattle.actx_parse.specs.Layout.{layout}
-use Rattle.actx_parse.specs.Spell.{spell_program}
-use Rattle.actx_parse.specs.Tree.{Stmts}
+use Rattle.std.specs.Prelude.{◌≡◌, ℕ, List}
+use Rattle.std.specs.Str.{encode_utf8_all}
+use Rattle.actx_top.specs.Accepts.{Takes, ReadsPlain}
+use Rattle.actx_emit.specs.Layout.{layout}
+use Rattle.actx_ast.specs.Spell.{spell_program}
+use Rattle.actx_ast.specs.Tree.{Stmts}
 use Rattle.actx_top.specs.Low.{low, OwnPart}
 use Rattle.actx_top.specs.Meaning.{Same}
 
 -- the text that is emitted for a program
 abbrev pub emitted : Stmts → List ℕ
-emitted p = layout (spell_program (low p))
+emitted p = encode_utf8_all (layout (spell_program (low p)))
 
 -- what is promised of a program p, whose emitted program is q
 pub record Matches (p q : Stmts) : Type 0 where
@@ -24,6 +25,13 @@ pub record Matches (p q : Stmts) : Type 0 where
   -- q is the prelude, and then the statements of p with their names renamed
   pub own : OwnPart p q
 
--- every text that is a program has its emitted program
+-- a text is lowered to this one
+pub record IsLowered (text made : List ℕ) : Type 0 where
+  pub program : Stmts
+  pub takes : Takes text program
+  pub is : made ≡ emitted program
+  pub matches : Matches program (low program)
+
+-- every text that is a program of forms that run has its emitted program
 abbrev pub Headline : Type 0
-Headline = (text : List ℕ) (p : Stmts) → Accepts text p → Matches p (low p)
+Headline = (text : List ℕ) (p : Stmts) → Takes text p → Matches p (low p)

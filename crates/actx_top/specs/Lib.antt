@@ -1,3 +1,4 @@
+pub mod Texts
 pub mod Sound
 pub mod Operators
 pub mod State
@@ -10,6 +11,10 @@ pub mod Prelude
 pub mod Low
 pub mod Weight
 pub mod Meaning
+pub mod Taken
+pub mod Accepts
+pub mod Refusals
+pub mod Faults
 pub mod Headline
 pub mod Answers
 pub mod Related

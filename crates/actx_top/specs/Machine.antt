@@ -10,17 +10,17 @@ use Rattle.actx_data.specs.declared.trace.TraceEvent.{TraceEvent}
 use Rattle.actx_data.specs.declared.trace.TraceEvent.TheVariants.{Out, Get}
 use Rattle.actx_data.specs.declared.value.Value.{Value}
 use Rattle.actx_data.specs.declared.value.Value.TheVariants as v
-use Rattle.actx_parse.specs.declared.side.Side.{Side}
-use Rattle.actx_parse.specs.declared.side.Side.TheVariants as side
-use Rattle.actx_parse.specs.declared.tree.BinaryOp.{BinaryOp}
-use Rattle.actx_parse.specs.declared.tree.Form.{Form}
-use Rattle.actx_parse.specs.declared.tree.Form.TheVariants.{Log, NewVariable, NewWeakMap, Freeze, CallWith, Note}
-use Rattle.actx_parse.specs.declared.tree.FunctionKind.{FunctionKind}
-use Rattle.actx_parse.specs.declared.tree.FunctionKind.TheVariants.{Normal as normal_kind, Arrow as arrow_kind}
-use Rattle.actx_parse.specs.Grammar.{count}
-use Rattle.actx_parse.specs.Parser.{suits}
-use Rattle.actx_parse.specs.Tree as t
-use Rattle.actx_parse.specs.Tree.{Expr, Exprs, Properties, Items, Stmt, Stmts}
+use Rattle.actx_ast.specs.declared.side.Side.{Side}
+use Rattle.actx_ast.specs.declared.side.Side.TheVariants as side
+use Rattle.actx_ast.specs.declared.operators.BinaryOp.{BinaryOp}
+use Rattle.actx_ast.specs.declared.operators.Form.{Form}
+use Rattle.actx_ast.specs.declared.operators.Form.TheVariants.{Log, NewVariable, NewWeakMap, Freeze, CallWith, Note}
+use Rattle.actx_ast.specs.declared.operators.FunctionKind.{FunctionKind}
+use Rattle.actx_ast.specs.declared.operators.FunctionKind.TheVariants.{Normal as normal_kind, Arrow as arrow_kind}
+use Rattle.actx_ast.specs.Grammar.{count}
+use Rattle.actx_ast.specs.ParserOperands.{suits}
+use Rattle.actx_ast.specs.Tree as t
+use Rattle.actx_ast.specs.Tree.{Expr, Exprs, PropKey, Properties, Code, ConstItems, Stmt, MaybeStmt, Stmts}
 use Rattle.actx_top.specs.Operators.{Answer, Gives, Throws, Leaves, binary, is_true}
 use Rattle.actx_top.specs.Printing.{line_of, is_line}
 use Rattle.actx_top.specs.Agent.{mapped_or, with_mapped, this_variable, variable_props}
@@ -59,12 +59,12 @@ read_cell (Some c) fs s = read_value c.value fs s
 -- the receiver that a function keeps
 abbrev pub kept_receiver : FunctionKind → Value → Value
 kept_receiver arrow_kind receiver = receiver
-kept_receiver normal_kind receiver = v.Undefined
+kept_receiver _ receiver = v.Undefined
 
 -- the receiver in a function's body
 abbrev pub body_receiver : FunctionKind → Value → Value → Value
 body_receiver arrow_kind kept given = kept
-body_receiver normal_kind kept given = given
+body_receiver _ kept given = given
 
 -- ROWS: methods
 -- a variable's get
@@ -192,6 +192,7 @@ form_rule NewWeakMap vs fs s = makes (Weak []) fs s
 form_rule Freeze vs fs s = freeze_form vs fs s
 form_rule CallWith vs fs s = call_with vs fs s
 form_rule Note vs fs s = noted (note s.heap s.shown vs) fs s
+form_rule _ vs fs s = Stops Left
 
 -- ROWS: operations
 abbrev pub operator_rule : BinaryOp → List Value → List Frame → Store → Move
@@ -232,9 +233,22 @@ eval_parts side op vs t.none fs s = rule side op vs fs s
 eval_parts side op vs (t.also e es) fs s = Goes (Eval e) (Pending op vs es ∷ fs) s
 
 -- ROWS: expressions
+-- a key that is computed has no units before the run
+abbrev pub units_of : PropKey → List ℕ
+units_of (t.Fixed u) = u
+units_of (t.Computed e) = []
+
 abbrev pub keys_of : Properties → List (List ℕ)
 keys_of t.no_properties = []
-keys_of (t.property key e ps) = key ∷ keys_of ps
+keys_of (t.property key e ps) = units_of key ∷ keys_of ps
+
+abbrev pub is_fixed : PropKey → Bool
+is_fixed (t.Fixed u) = true
+is_fixed (t.Computed e) = false
+
+abbrev pub are_fixed : Properties → Bool
+are_fixed t.no_properties = true
+are_fixed (t.property key e ps) = is_fixed key && are_fixed ps
 
 abbrev pub values_of : Properties → Exprs
 values_of t.no_properties = t.none
@@ -242,12 +256,27 @@ values_of (t.property key e ps) = t.also e (values_of ps)
 
 -- a call of a property has the base first, and then reads the property
 abbrev pub eval_call : Side → Expr → Exprs → List Frame → Store → Move
-eval_call side (t.Member b key) es fs s = Goes (Eval b) (BaseFrame key es ∷ fs) s
+eval_call side (t.Member b (t.Dot key)) es fs s = Goes (Eval b) (BaseFrame key es ∷ fs) s
 eval_call side f es fs s = eval_parts side (CallOf v.Undefined) [] (t.also f es) fs s
 
 -- a form of the other side, or with a number of parts that it doesn't take, is outside the profile where it is reached
 abbrev pub eval_form : Side → Form → Exprs → List Frame → Store → Move
 eval_form side form es fs s = if has_form side form && suits form (count es) then eval_parts side (BuiltIn form) [] es fs s else Stops Left
+
+-- keys that are computed are outside the profile
+abbrev pub eval_object : Side → Properties → List Frame → Store → Move
+eval_object side ps fs s = if are_fixed ps then eval_parts side (MakeObject (keys_of ps)) [] (values_of ps) fs s else Stops Left
+
+-- a generator and what is async are outside the profile
+abbrev pub function_rule : FunctionKind → List (List ℕ) → Stmts → List Frame → Store → Move
+function_rule arrow_kind xs ss fs s = makes (Closure arrow_kind xs ss s.scope (kept_receiver arrow_kind s.receiver)) fs s
+function_rule normal_kind xs ss fs s = makes (Closure normal_kind xs ss s.scope (kept_receiver normal_kind s.receiver)) fs s
+function_rule _ xs ss fs s = Stops Left
+
+-- and so is a function with a name of its own
+abbrev pub eval_function : Code → List Frame → Store → Move
+eval_function (t.code None kind xs ss) fs s = function_rule kind xs ss fs s
+eval_function (t.code (Some x) kind xs ss) fs s = Stops Left
 
 abbrev pub eval : Side → Expr → List Frame → Store → Move
 eval side (t.Num n) fs s = eval_number n fs s
@@ -256,17 +285,18 @@ eval side t.Undefined fs s = Goes (Given v.Undefined) fs s
 eval side t.This fs s = Goes (Given s.receiver) fs s
 eval side (t.Named x) fs s = read_cell (find s.scopes s.scope x) fs s
 eval side (t.Binary op a b) fs s = eval_parts side (Operator op) [] (t.also a (t.also b t.none)) fs s
-eval side (t.Member b key) fs s = eval_parts side (GetKey key) [] (t.also b t.none) fs s
-eval side (t.SetMember b key e) fs s = eval_parts side (SetKey key) [] (t.also b (t.also e t.none)) fs s
+eval side (t.Member b (t.Dot key)) fs s = eval_parts side (GetKey key) [] (t.also b t.none) fs s
+eval side (t.SetMember b (t.Dot key) e) fs s = eval_parts side (SetKey key) [] (t.also b (t.also e t.none)) fs s
 eval side (t.Call f es) fs s = eval_call side f es fs s
-eval side (t.Object ps) fs s = eval_parts side (MakeObject (keys_of ps)) [] (values_of ps) fs s
-eval side (t.Function kind xs ss) fs s = makes (Closure kind xs ss s.scope (kept_receiver kind s.receiver)) fs s
+eval side (t.Object ps) fs s = eval_object side ps fs s
+eval side (t.Function f) fs s = eval_function f fs s
 eval side (t.Built form es) fs s = eval_form side form es fs s
+eval side _ fs s = Stops Left
 
 -- ROWS: statements
-abbrev pub begin_item : Items → List Frame → Store → Move
-begin_item t.no_items fs s = Goes (Done Normal) fs s
-begin_item (t.item x e is) fs s = Goes (Eval e) (ConstFrame x is ∷ fs) s
+abbrev pub begin_item : ConstItems → List Frame → Store → Move
+begin_item t.no_consts fs s = Goes (Done Normal) fs s
+begin_item (t.const_item x e is) fs s = Goes (Eval e) (ConstFrame x is ∷ fs) s
 
 -- an empty list has no frame and no scope
 abbrev pub exec_list : Stmts → List Frame → Store → Move
@@ -281,11 +311,12 @@ exec_body (t.next st ss) fs s = Goes (Exec st) (ListFrame ss s.scope ∷ fs) s
 abbrev pub exec : Stmt → List Frame → Store → Move
 exec (t.Const is) fs s = begin_item is fs s
 exec (t.Value e) fs s = Goes (Eval e) (ValueFrame ∷ fs) s
-exec (t.Return e) fs s = Goes (Eval e) (ReturnFrame ∷ fs) s
-exec t.ReturnNothing fs s = Goes (Done (Return v.Undefined)) fs s
+exec (t.Return (t.some_expr e)) fs s = Goes (Eval e) (ReturnFrame ∷ fs) s
+exec (t.Return t.no_expr) fs s = Goes (Done (Return v.Undefined)) fs s
 exec (t.Block ss) fs s = exec_list ss fs s
-exec (t.If e ss) fs s = Goes (Eval e) (IfFrame ss ∷ fs) s
-exec (t.Try ss ls) fs s = Goes (ExecList ss) (TryFrame ls s.scope ∷ fs) s
+exec (t.If e branch other) fs s = Goes (Eval e) (IfFrame branch other ∷ fs) s
+exec (t.Try ss t.no_catch (t.last ls)) fs s = Goes (ExecList ss) (TryFrame ls s.scope ∷ fs) s
+exec _ fs s = Stops Left
 
 abbrev pub next_statement : Stmts → List ℕ → List Frame → Store → Move
 next_statement t.end back fs s = Goes (Done Normal) fs (back_to s back)
@@ -296,9 +327,10 @@ abbrev pub idle : Task → List Event → Store → Move
 idle task [] s = Stops Ended
 idle task (e ∷ es) s = Goes task [] (record s { events = es })
 
-abbrev pub chosen : Bool → Stmts → List Frame → Store → Move
-chosen true ss fs s = Goes (Exec (t.Block ss)) fs s
-chosen false ss fs s = Goes (Done Normal) fs s
+abbrev pub chosen : Bool → Stmt → MaybeStmt → List Frame → Store → Move
+chosen true branch other fs s = Goes (Exec branch) fs s
+chosen false branch t.no_stmt fs s = Goes (Done Normal) fs s
+chosen false branch (t.some_stmt other) fs s = Goes (Exec other) fs s
 
 -- the property of a call's base: where reading it throws, the frame stays for a later step
 abbrev pub base_given : Answer → Value → List ℕ → Exprs → List Frame → Store → Move
@@ -314,7 +346,7 @@ given side v (CalleeFrame b es ∷ fs) s = eval_parts side (CallOf b) (v ∷ [])
 given side v (ConstFrame x is ∷ fs) s = begin_item is fs (with_set s x v)
 given side v (ValueFrame ∷ fs) s = Goes (Done Normal) fs s
 given side v (ReturnFrame ∷ fs) s = Goes (Done (Return v)) fs s
-given side v (IfFrame ss ∷ fs) s = chosen (is_true v) ss fs s
+given side v (IfFrame branch other ∷ fs) s = chosen (is_true v) branch other fs s
 given side v (MappingFrame old back r ∷ fs) s = Goes (Given v) fs (record s { mapping = old; scope = back; receiver = r })
 given side v (TryFrame ls back ∷ fs) s = Stops Left
 given side v (LastFrame c ∷ fs) s = Stops Left

@@ -1,11 +1,11 @@
 -- What the state of the code's machine stands for.
-use Rattle.std.specs.Prelude.{List, [], map, reverse}
+use Rattle.std.specs.Prelude.{List, [], map, option_map, reverse}
 use Rattle.actx_data.specs.declared.end.End.{End}
 use Rattle.actx_data.specs.declared.end.End.TheVariants.{Going}
-use Rattle.actx_parse.specs.declared.tree.Form.{Form}
-use Rattle.actx_parse.specs.declared.tree.Form.TheVariants as form
-use Rattle.actx_parse.specs.Tree.{Exprs, also, none, Block}
-use Rattle.actx_parse.specs.View.{expr_view, exprs_view, items_view, properties_view, stmt_view, stmts_view}
+use Rattle.actx_ast.specs.declared.operators.Form.{Form}
+use Rattle.actx_ast.specs.declared.operators.Form.TheVariants as form
+use Rattle.actx_ast.specs.Tree.{Exprs, also, none}
+use Rattle.actx_ast.specs.View.{expr_view, exprs_view, consts_view, maybe_stmt, properties_view, stmt_view, stmts_view}
 use Rattle.actx_top.specs.Chains.{chain_of}
 use Rattle.actx_top.specs.Machine.{at, stopped, keys_of, values_of}
 use Rattle.actx_top.specs.State as m
@@ -34,8 +34,6 @@ task_of (k.Eval e) = m.Eval (expr_view e.now)
 task_of (k.Exec st) = m.Exec (stmt_view st.now)
 task_of (k.ExecList ss) = m.ExecList (stmts_view ss.now)
 task_of (k.ExecBody ss) = m.ExecBody (stmts_view ss.now)
--- the branch of an if, which the tree has as a list
-task_of (k.ExecBlock ss) = m.Exec (Block (stmts_view ss.now))
 task_of (k.Given v) = m.Given v
 task_of (k.Done c) = m.Done (completion_of c)
 task_of (k.Call f r vs) = m.Call f r vs.items
@@ -66,10 +64,10 @@ abbrev pub frame_of : Frame → m.Frame
 frame_of (f.Pending w) = m.Pending (op_of w.value.op) w.value.values.items (parts_of w.value.rest)
 frame_of (f.Base key es) = m.BaseFrame key.now (exprs_view es.now)
 frame_of (f.Callee base es) = m.CalleeFrame base (exprs_view es.now)
-frame_of (f.Const x is) = m.ConstFrame x.now (items_view is.now)
+frame_of (f.Const x is) = m.ConstFrame x.now (consts_view is.now)
 frame_of f.Value = m.ValueFrame
 frame_of f.Return = m.ReturnFrame
-frame_of (f.If ss) = m.IfFrame (stmts_view ss.now)
+frame_of (f.If branch other) = m.IfFrame (stmt_view branch.now) (maybe_stmt (option_map (λ b. stmt_view b.value) other.now))
 frame_of (f.Try ss back) = m.TryFrame (stmts_view ss.now) (chain_of back)
 frame_of (f.Last c) = m.LastFrame (completion_of c)
 frame_of (f.List ss back) = m.ListFrame (stmts_view ss.now) (chain_of back)

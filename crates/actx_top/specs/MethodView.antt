@@ -3,7 +3,7 @@ use Rattle.std.specs.Prelude.{ℕ, Bool, true, false, List, Option, Some, None, 
 use Rattle.actx_data.specs.declared.shown.ErrorName.TheVariants.{TypeError}
 use Rattle.actx_data.specs.declared.value.Value.{Value}
 use Rattle.actx_data.specs.declared.value.Value.TheVariants as v
-use Rattle.actx_parse.specs.View.{stmts_view}
+use Rattle.actx_ast.specs.View.{stmts_view}
 use Rattle.actx_top.specs.Chains.{chain_of}
 use Rattle.actx_top.specs.Machine.{throws}
 use Rattle.actx_top.specs.Operators as op

@@ -6,7 +6,7 @@ use Rattle.actx_data.specs.declared.trace.TraceEvent.{TraceEvent}
 use Rattle.actx_data.specs.declared.trace.TraceEvent.TheVariants as e
 use Rattle.actx_data.specs.declared.value.Value.{Value}
 use Rattle.actx_data.specs.declared.value.Value.TheVariants as v
-use Rattle.actx_parse.specs.Lexical.{same_text}
+use Rattle.actx_top.specs.Texts.{same_text}
 use Rattle.actx_top.specs.State.{Thing}
 use Rattle.actx_top.specs.Properties.{show, more_shown}
 

@@ -7,9 +7,9 @@ use Rattle.actx_data.specs.Units.{joined}
 use Rattle.actx_data.specs.declared.shown.ErrorName.{ErrorName}
 use Rattle.actx_data.specs.declared.value.Value.{Value}
 use Rattle.actx_data.specs.declared.value.Value.TheVariants as v
-use Rattle.actx_parse.specs.Lexical.{same_text}
-use Rattle.actx_parse.specs.declared.tree.BinaryOp.{BinaryOp}
-use Rattle.actx_parse.specs.declared.tree.BinaryOp.TheVariants as o
+use Rattle.actx_top.specs.Texts.{same_text}
+use Rattle.actx_ast.specs.declared.operators.BinaryOp.{BinaryOp}
+use Rattle.actx_ast.specs.declared.operators.BinaryOp.TheVariants as o
 
 -- the answer of an operation: a value, an error that is thrown, or that the run leaves the profile
 pub data Answer : Type 0 where
@@ -77,6 +77,7 @@ binary o.Add a b = plus a b
 binary o.Sub a b = minus a b
 binary o.Mul a b = times a b
 binary o.Same a b = Gives (v.Truth (same a b))
+binary _ a b = Leaves
 
 -- TESTS (7.1.2 ToBoolean)
 abbrev pub is_true : Value → Bool

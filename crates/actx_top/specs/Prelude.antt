@@ -51,11 +51,12 @@
 --
 -- A mapping is a list of frozen objects, one a variable, whose last one's rest is undefined. What is no variable has no
 -- state, and reading its number throws TypeError. A name that is no text has no length: the read leaves the profile.
-use Rattle.std.specs.Prelude.{ℕ, List, [], ◌∷◌, codes}
-use Rattle.actx_parse.specs.declared.tree.BinaryOp.TheVariants.{Add, Same}
-use Rattle.actx_parse.specs.declared.tree.Form.TheVariants.{NewWeakMap, Freeze, CallWith, Note}
-use Rattle.actx_parse.specs.declared.tree.FunctionKind.TheVariants.{Normal, Arrow}
-use Rattle.actx_parse.specs.Tree.{Expr, Num, Text, Undefined, This, Named, Binary, Member, SetMember, Call, Object, Function, Built, Exprs, none, also, Properties, no_properties, property, no_items, item, Stmt, Const, Value, Return, If, Try, Stmts, end, next}
+use Rattle.std.specs.Prelude.{ℕ, List, [], ◌∷◌, None, codes}
+use Rattle.actx_ast.specs.declared.operators.BinaryOp.TheVariants.{Add, Same}
+use Rattle.actx_ast.specs.declared.operators.Form.TheVariants.{NewWeakMap, Freeze, CallWith, Note}
+use Rattle.actx_ast.specs.declared.operators.FunctionKind.{FunctionKind}
+use Rattle.actx_ast.specs.declared.operators.FunctionKind.TheVariants.{Normal, Arrow}
+use Rattle.actx_ast.specs.Tree.{Expr, Num, Text, Undefined, This, Named, Binary, Member, SetMember, Call, Object, Function, Built, Exprs, none, also, some_expr, Dot, Fixed, Properties, no_properties, property, code, no_consts, const_item, Stmt, Const, Value, Return, Block, If, Try, no_stmt, no_catch, last, Stmts, end, next}
 
 -- NAMES
 abbrev pub name_states : List ℕ
@@ -148,112 +149,137 @@ all_named (x ∷ xs) = also (Named x) (all_named xs)
 
 -- name = e; as a statement of its own
 abbrev pub const : List ℕ → Expr → Stmt
-const x e = Const (item x e no_items)
+const x e = Const (const_item x e no_consts)
+
+-- e.key, and e.key = v
+abbrev pub member : Expr → List ℕ → Expr
+member e key = Member e (Dot key)
+
+abbrev pub set_member : Expr → List ℕ → Expr → Expr
+set_member e key v = SetMember e (Dot key) v
+
+-- key: e in a literal, before more
+abbrev pub keyed : List ℕ → Expr → Properties → Properties
+keyed key e ps = property (Fixed key) e ps
+
+abbrev pub returns : Expr → Stmt
+returns e = Return (some_expr e)
+
+-- if (e) { .. }
+abbrev pub when : Expr → Stmts → Stmt
+when e ss = If e (Block ss) no_stmt
+
+-- try { .. } finally { .. }
+abbrev pub ended_by : Stmts → Stmts → Stmt
+ended_by ss ls = Try ss no_catch (last ls)
+
+abbrev pub function_of : FunctionKind → List (List ℕ) → Stmts → Expr
+function_of kind xs ss = Function (code None kind xs ss)
 
 -- Object.freeze({ number: .., value: .., rest: .. })
 abbrev pub freeze : Properties → Expr
 freeze ps = Built Freeze (one (Object ps))
 
 abbrev pub entry_made : Expr → Expr → Expr → Expr
-entry_made n v rest = freeze (property key_number n (property key_value v (property key_rest rest no_properties)))
+entry_made n v rest = freeze (keyed key_number n (keyed key_value v (keyed key_rest rest no_properties)))
 
 abbrev pub now_mapping : Expr
-now_mapping = Member (Named name_now) key_mapping
+now_mapping = member (Named name_now) key_mapping
 
 abbrev pub state_of_this : Expr
-state_of_this = Call (Member (Named name_states) (codes "get")) (one This)
+state_of_this = Call (member (Named name_states) (codes "get")) (one This)
 
 -- FUNCTIONS
 abbrev pub find_found : Stmts
-find_found = next (Return (Member (Named the_list) key_value)) end
+find_found = next (returns (member (Named the_list) key_value)) end
 
 abbrev pub find_in_list : Stmts
 find_in_list =
-    next (If (Binary Same (Member (Named the_list) key_number) (Named the_number)) find_found)
-    (next (Return (Call (Named name_find) (three (Member (Named the_list) key_rest) (Named the_number) (Named the_other)))) end)
+    next (when (Binary Same (member (Named the_list) key_number) (Named the_number)) find_found)
+    (next (returns (Call (Named name_find) (three (member (Named the_list) key_rest) (Named the_number) (Named the_other)))) end)
 
 abbrev pub find_body : Stmts
-find_body = next (If (Named the_list) find_in_list) (next (Return (Named the_other)) end)
+find_body = next (when (Named the_list) find_in_list) (next (returns (Named the_other)) end)
 
 abbrev pub with_found : Stmts
-with_found = next (Return (entry_made (Named the_number) (Named the_value) (Member (Named the_list) key_rest))) end
+with_found = next (returns (entry_made (Named the_number) (Named the_value) (member (Named the_list) key_rest))) end
 
 abbrev pub with_in_list : Stmts
 with_in_list =
-    next (If (Binary Same (Member (Named the_list) key_number) (Named the_number)) with_found)
-    (next (Return (entry_made (Member (Named the_list) key_number) (Member (Named the_list) key_value)
-    (Call (Named name_with) (three (Member (Named the_list) key_rest) (Named the_number) (Named the_value))))) end)
+    next (when (Binary Same (member (Named the_list) key_number) (Named the_number)) with_found)
+    (next (returns (entry_made (member (Named the_list) key_number) (member (Named the_list) key_value)
+    (Call (Named name_with) (three (member (Named the_list) key_rest) (Named the_number) (Named the_value))))) end)
 
 abbrev pub with_body : Stmts
-with_body = next (If (Named the_list) with_in_list) (next (Return (entry_made (Named the_number) (Named the_value) Undefined)) end)
+with_body = next (when (Named the_list) with_in_list) (next (returns (entry_made (Named the_number) (Named the_value) Undefined)) end)
 
 abbrev pub get_body : Stmts
 get_body =
     next (const the_state state_of_this)
-    (next (const the_number (Member (Named the_state) key_number))
-    (next (const the_value (Call (Named name_find) (three now_mapping (Named the_number) (Member (Named the_state) key_value))))
+    (next (const the_number (member (Named the_state) key_number))
+    (next (const the_value (Call (Named name_find) (three now_mapping (Named the_number) (member (Named the_state) key_value))))
     (next (Value (Built Note (also (Text (codes "get")) (three (Named the_number) (Named the_value) Undefined))))
-    (next (Return (Named the_value)) end))))
+    (next (returns (Named the_value)) end))))
 
 abbrev pub run_block : Stmts
-run_block = next (Return (Built CallWith (also (Named the_f) (also Undefined (all_named the_arguments))))) end
+run_block = next (returns (Built CallWith (also (Named the_f) (also Undefined (all_named the_arguments))))) end
 
 abbrev pub run_last : Stmts
-run_last = next (Value (SetMember (Named name_now) key_mapping (Named the_old))) end
+run_last = next (Value (set_member (Named name_now) key_mapping (Named the_old))) end
 
 abbrev pub run_body : Stmts
 run_body =
     next (const the_state state_of_this)
     (next (const the_old now_mapping)
-    (next (Value (SetMember (Named name_now) key_mapping (Call (Named name_with) (three (Named the_old) (Member (Named the_state) key_number) (Named the_value)))))
-    (next (Try run_block run_last) end)))
+    (next (Value (set_member (Named name_now) key_mapping (Call (Named name_with) (three (Named the_old) (member (Named the_state) key_number) (Named the_value)))))
+    (next (ended_by run_block run_last) end)))
 
 abbrev pub make_body : Stmts
 make_body =
-    next (const the_number (Binary Add (Member (Named name_now) key_count) (Num 1)))
-    (next (const the_variable (freeze (property (codes "get") (Named name_get) (property (codes "run") (Named name_run) (property (codes "name") (Named the_name) no_properties)))))
-    (next (Value (SetMember (Named name_now) key_count (Named the_number)))
-    (next (Value (Call (Member (Named name_states) (codes "set")) (two (Named the_variable) (freeze (property key_number (Named the_number) (property key_value (Named the_value) no_properties))))))
-    (next (Return (Named the_variable)) end))))
+    next (const the_number (Binary Add (member (Named name_now) key_count) (Num 1)))
+    (next (const the_variable (freeze (keyed (codes "get") (Named name_get) (keyed (codes "run") (Named name_run) (keyed (codes "name") (Named the_name) no_properties)))))
+    (next (Value (set_member (Named name_now) key_count (Named the_number)))
+    (next (Value (Call (member (Named name_states) (codes "set")) (two (Named the_variable) (freeze (keyed key_number (Named the_number) (keyed key_value (Named the_value) no_properties))))))
+    (next (returns (Named the_variable)) end))))
 
 abbrev pub variable_unnamed : Stmts
-variable_unnamed = next (Return (Call (Named name_make) (two (Text []) (Named the_value)))) end
+variable_unnamed = next (returns (Call (Named name_make) (two (Text []) (Named the_value)))) end
 
 abbrev pub variable_options : Stmts
 variable_options =
-    next (const the_name (Member (Named the_options) (codes "name")))
-    (next (const the_value (Member (Named the_options) (codes "defaultValue")))
-    (next (If (Binary Same (Named the_name) Undefined) variable_unnamed)
-    (next (Value (Member (Named the_name) (codes "length")))
-    (next (Return (Call (Named name_make) (two (Named the_name) (Named the_value)))) end))))
+    next (const the_name (member (Named the_options) (codes "name")))
+    (next (const the_value (member (Named the_options) (codes "defaultValue")))
+    (next (when (Binary Same (Named the_name) Undefined) variable_unnamed)
+    (next (Value (member (Named the_name) (codes "length")))
+    (next (returns (Call (Named name_make) (two (Named the_name) (Named the_value)))) end))))
 
 abbrev pub variable_body : Stmts
-variable_body = next (If (Named the_options) variable_options) (next (Return (Call (Named name_make) (two (Text []) Undefined))) end)
+variable_body = next (when (Named the_options) variable_options) (next (returns (Call (Named name_make) (two (Text []) Undefined))) end)
 
 -- THE LIST
 abbrev pub find_function : Expr
-find_function = Function Arrow (the_list ∷ the_number ∷ the_other ∷ []) find_body
+find_function = function_of Arrow (the_list ∷ the_number ∷ the_other ∷ []) find_body
 
 abbrev pub with_function : Expr
-with_function = Function Arrow (the_list ∷ the_number ∷ the_value ∷ []) with_body
+with_function = function_of Arrow (the_list ∷ the_number ∷ the_value ∷ []) with_body
 
 abbrev pub get_function : Expr
-get_function = Function Normal [] get_body
+get_function = function_of Normal [] get_body
 
 abbrev pub run_function : Expr
-run_function = Function Normal (the_value ∷ the_f ∷ the_arguments) run_body
+run_function = function_of Normal (the_value ∷ the_f ∷ the_arguments) run_body
 
 abbrev pub make_function : Expr
-make_function = Function Arrow (the_name ∷ the_value ∷ []) make_body
+make_function = function_of Arrow (the_name ∷ the_value ∷ []) make_body
 
 abbrev pub variable_function : Expr
-variable_function = Function Arrow (the_options ∷ []) variable_body
+variable_function = function_of Arrow (the_options ∷ []) variable_body
 
 abbrev pub prelude : Stmts
 prelude =
     next (Value (Text (codes "use strict")))
     (next (const name_states (Built NewWeakMap none))
-    (next (const name_now (Object (property key_mapping Undefined (property key_count (Num 0) no_properties))))
+    (next (const name_now (Object (keyed key_mapping Undefined (keyed key_count (Num 0) no_properties))))
     (next (const name_find find_function)
     (next (const name_with with_function)
     (next (const name_get get_function)

@@ -7,7 +7,7 @@ use Rattle.actx_data.specs.declared.shown.Shown.{Shown}
 use Rattle.actx_data.specs.declared.shown.Shown.TheVariants as h
 use Rattle.actx_data.specs.declared.value.Value.{Value}
 use Rattle.actx_data.specs.declared.value.Value.TheVariants as v
-use Rattle.actx_parse.specs.Lexical.{same_text}
+use Rattle.actx_top.specs.Texts.{same_text}
 use Rattle.actx_top.specs.Operators.{Answer, Gives, Throws, Leaves}
 use Rattle.actx_top.specs.State.{Prop, Entry, Thing, Plain, Listed, Failure, Closure, Native, Weak, option_or}
 

@@ -6,14 +6,16 @@ use Rattle.actx_data.specs.declared.shown.ErrorName.{ErrorName}
 use Rattle.actx_data.specs.declared.trace.TraceEvent.{TraceEvent}
 use Rattle.actx_data.specs.declared.value.Value.{Value}
 use Rattle.actx_data.specs.declared.value.Value.TheVariants as v
-use Rattle.actx_parse.specs.declared.tree.BinaryOp.{BinaryOp}
-use Rattle.actx_parse.specs.declared.tree.Form.TheVariants.{Log, NewVariable}
-use Rattle.actx_parse.specs.declared.tree.FunctionKind.TheVariants.{Normal as normal_kind, Arrow as arrow_kind}
-use Rattle.actx_parse.specs.Grammar.{count}
-use Rattle.actx_parse.specs.Lexical.{same_text}
-use Rattle.actx_parse.specs.Static.{longest_text}
-use Rattle.actx_parse.specs.Tree as t
-use Rattle.actx_parse.specs.Tree.{Expr, Exprs, Properties, Items, Stmt, Stmts}
+use Rattle.actx_ast.specs.declared.operators.BinaryOp.{BinaryOp}
+use Rattle.actx_ast.specs.declared.operators.Form.TheVariants.{Log, NewVariable}
+use Rattle.actx_ast.specs.declared.operators.FunctionKind.TheVariants.{Normal as normal_kind, Arrow as arrow_kind}
+use Rattle.actx_ast.specs.Grammar.{count}
+use Rattle.actx_top.specs.Texts.{same_text}
+use Rattle.actx_top.specs.Taken.{longest_text}
+use Rattle.actx_ast.specs.Names.{IsKey}
+use Rattle.actx_ast.specs.declared.side.Side.TheVariants.{Plain as plain}
+use Rattle.actx_ast.specs.Tree as t
+use Rattle.actx_ast.specs.Tree.{Expr, Exprs, Properties, ConstItems, Stmt, Stmts}
 use Rattle.actx_top.specs.Low.{p_}
 use Rattle.actx_top.specs.Prelude.{name_states, name_now, name_find, name_with, name_get, name_run, name_make, name_variable, the_list, the_number, the_other, the_value, the_old, the_f, the_name, the_options, the_arguments, key_number, key_value, key_rest, key_mapping, key_count, find_body, with_body, get_body, run_body, run_last, make_body, variable_body}
 use Rattle.actx_top.specs.Properties.{prop_of}
@@ -38,9 +40,10 @@ mutual
     undefined_expr : ExprIs t.Undefined t.Undefined
     named_expr : (x : List ℕ) → ExprIs (t.Named x) (t.Named (p_ x))
     binary_expr : (op : BinaryOp) {a b c d : Expr} → ExprIs a c → ExprIs b d → ExprIs (t.Binary op a b) (t.Binary op c d)
-    member_expr : (key : List ℕ) {e d : Expr} → ExprIs e d → ExprIs (t.Member e key) (t.Member d key)
+    -- a key that the plain side spells too
+    member_expr : (key : List ℕ) {e d : Expr} → IsKey plain key → ExprIs e d → ExprIs (t.Member e (t.Dot key)) (t.Member d (t.Dot key))
     call_expr : {f g : Expr} {es ds : Exprs} → count es ≤ 8 → ExprIs f g → ExprsAre es ds → ExprIs (t.Call f es) (t.Call g ds)
-    arrow_expr : {xs ys : List (List ℕ)} {ss ts : Stmts} → NamesAre xs ys → StmtsAre ss ts → ExprIs (t.Function arrow_kind xs ss) (t.Function arrow_kind ys ts)
+    arrow_expr : {xs ys : List (List ℕ)} {ss ts : Stmts} → NamesAre xs ys → StmtsAre ss ts → ExprIs (t.Function (t.code None arrow_kind xs ss)) (t.Function (t.code None arrow_kind ys ts))
     log_expr : {es ds : Exprs} → ExprsAre es ds → ExprIs (t.Built Log es) (t.Built Log ds)
     -- a variable's constructor is a call of the prelude's function
     variable_expr : ExprIs (t.Built NewVariable t.none) (t.Call (t.Named name_variable) t.none)
@@ -52,17 +55,17 @@ mutual
 
   pub data PropertiesAre : Properties → Properties → Type 0 where
     no_properties_are : PropertiesAre t.no_properties t.no_properties
-    more_properties : (key : List ℕ) {e d : Expr} {ps qs : Properties} → ExprIs e d → PropertiesAre ps qs → PropertiesAre (t.property key e ps) (t.property key d qs)
+    more_properties : (key : List ℕ) {e d : Expr} {ps qs : Properties} → ExprIs e d → PropertiesAre ps qs → PropertiesAre (t.property (t.Fixed key) e ps) (t.property (t.Fixed key) d qs)
 
-  pub data ItemsAre : Items → Items → Type 0 where
-    no_items_are : ItemsAre t.no_items t.no_items
-    more_items : (x : List ℕ) {e d : Expr} {is js : Items} → ExprIs e d → ItemsAre is js → ItemsAre (t.item x e is) (t.item (p_ x) d js)
+  pub data ItemsAre : ConstItems → ConstItems → Type 0 where
+    no_items_are : ItemsAre t.no_consts t.no_consts
+    more_items : (x : List ℕ) {e d : Expr} {is js : ConstItems} → ExprIs e d → ItemsAre is js → ItemsAre (t.const_item x e is) (t.const_item (p_ x) d js)
 
   pub data StmtIs : Stmt → Stmt → Type 0 where
-    const_stmt : {is js : Items} → ItemsAre is js → StmtIs (t.Const is) (t.Const js)
+    const_stmt : {is js : ConstItems} → ItemsAre is js → StmtIs (t.Const is) (t.Const js)
     value_stmt : {e d : Expr} → ExprIs e d → StmtIs (t.Value e) (t.Value d)
-    return_stmt : {e d : Expr} → ExprIs e d → StmtIs (t.Return e) (t.Return d)
-    return_nothing_stmt : StmtIs t.ReturnNothing t.ReturnNothing
+    return_stmt : {e d : Expr} → ExprIs e d → StmtIs (t.Return (t.some_expr e)) (t.Return (t.some_expr d))
+    return_nothing_stmt : StmtIs (t.Return t.no_expr) (t.Return t.no_expr)
 
   pub data StmtsAre : Stmts → Stmts → Type 0 where
     no_stmts : StmtsAre t.end t.end
@@ -120,10 +123,6 @@ pub data CellsAre (w : World) : List Cell → List Cell → Type 0 where
   own_cell : (d : Cell) {cs ds : List Cell} → IsOwn d → CellsAre w cs ds → CellsAre w cs (d ∷ ds)
 
 -- THE PRELUDE'S THINGS, at these places: 2 the states, 3 the current mapping and the count, and its functions from 4 on
-abbrev pub own_closure : Expr → Thing
-own_closure (t.Function kind xs ss) = Closure kind xs ss (0 ∷ []) v.Undefined
-own_closure _ = Weak []
-
 -- what the prelude's constants are in the outermost scope
 pub record IsBase (cells : List Cell) : Type 0 where
   pub states : cell_of name_states cells ≡ constant_at name_states 2
@@ -231,7 +230,7 @@ pub data FramesAre (w : World) (heap : List Thing) (scopes : List (List Cell)) :
   -- the options of a variable: one of their values is missing
   options_are : (keys : List (List ℕ)) {xs ys : List Value} {es ds : Exprs} {fs gs : List Frame} → ValuesAre w xs ys → ExprsAre es ds → FramesAre w heap scopes ForValue fs gs → FramesAre w heap scopes ForValue (Pending (MakeObject keys) xs es ∷ Pending (BuiltIn NewVariable) [] t.none ∷ fs) (Pending (MakeObject keys) ys ds ∷ Pending (CallOf v.Undefined) (v.Thing 9 ∷ []) t.none ∷ gs)
   options_lost : {fs gs : List Frame} → FramesAre w heap scopes ForValue fs gs → FramesAre w heap scopes ForThrow (Pending (BuiltIn NewVariable) [] t.none ∷ fs) (Pending (CallOf v.Undefined) (v.Thing 9 ∷ []) t.none ∷ gs)
-  const_is : (x : List ℕ) {is js : Items} {fs gs : List Frame} → ItemsAre is js → FramesAre w heap scopes ForCompletion fs gs → FramesAre w heap scopes ForValue (ConstFrame x is ∷ fs) (ConstFrame (p_ x) js ∷ gs)
+  const_is : (x : List ℕ) {is js : ConstItems} {fs gs : List Frame} → ItemsAre is js → FramesAre w heap scopes ForCompletion fs gs → FramesAre w heap scopes ForValue (ConstFrame x is ∷ fs) (ConstFrame (p_ x) js ∷ gs)
   value_frame_is : {fs gs : List Frame} → FramesAre w heap scopes ForCompletion fs gs → FramesAre w heap scopes ForValue (ValueFrame ∷ fs) (ValueFrame ∷ gs)
   return_frame_is : {fs gs : List Frame} → FramesAre w heap scopes ForCompletion fs gs → FramesAre w heap scopes ForValue (ReturnFrame ∷ fs) (ReturnFrame ∷ gs)
   list_is : {ss ts : Stmts} {b c : List ℕ} {fs gs : List Frame} → StmtsAre ss ts → ChainIs w b c → FramesAre w heap scopes ForCompletion fs gs → FramesAre w heap scopes ForCompletion (ListFrame ss b ∷ fs) (ListFrame ts c ∷ gs)

@@ -6,12 +6,12 @@ use Rattle.actx_data.specs.declared.shown.ErrorName.{ErrorName}
 use Rattle.actx_data.specs.declared.trace.TraceEvent.{TraceEvent}
 use Rattle.actx_data.specs.declared.value.Value.{Value}
 use Rattle.actx_data.specs.declared.value.Value.TheVariants as v
-use Rattle.actx_parse.specs.declared.tree.BinaryOp.{BinaryOp}
-use Rattle.actx_parse.specs.declared.tree.Form.{Form}
-use Rattle.actx_parse.specs.declared.tree.FunctionKind.{FunctionKind}
-use Rattle.actx_parse.specs.Lexical.{same_text}
-use Rattle.actx_parse.specs.Tree as t
-use Rattle.actx_parse.specs.Tree.{Expr, Exprs, Items, Stmt, Stmts}
+use Rattle.actx_ast.specs.declared.operators.BinaryOp.{BinaryOp}
+use Rattle.actx_ast.specs.declared.operators.Form.{Form}
+use Rattle.actx_ast.specs.declared.operators.FunctionKind.{FunctionKind}
+use Rattle.actx_top.specs.Texts.{same_text}
+use Rattle.actx_ast.specs.Tree as t
+use Rattle.actx_ast.specs.Tree.{Expr, Exprs, ConstItems, Stmt, MaybeStmt, Stmts}
 
 -- COMPLETIONS (6.2.4): how the work on a part ended
 pub data Completion : Type 0 where
@@ -90,11 +90,12 @@ pub data Frame : Type 0 where
   BaseFrame : (key : List ℕ) (args : Exprs) → Frame
   CalleeFrame : (base : Value) (args : Exprs) → Frame
   -- a const: the name that waits for its value, and the items behind it
-  ConstFrame : (x : List ℕ) (rest : Items) → Frame
+  ConstFrame : (x : List ℕ) (rest : ConstItems) → Frame
   -- a statement that drops its expression's value, and one that returns it
   ValueFrame : Frame
   ReturnFrame : Frame
-  IfFrame : (yes : Stmts) → Frame
+  -- what is done where a test holds, and where it doesn't
+  IfFrame : (branch : Stmt) (other : MaybeStmt) → Frame
   -- the block of a try, with its last part and the scope round it; and the last part, with the completion that is kept
   TryFrame : (last : Stmts) (back : List ℕ) → Frame
   LastFrame : (kept : Completion) → Frame
@@ -185,9 +186,9 @@ with_cell c (d ∷ ds) = if same_text c.name d.name then record { name = d.name;
 abbrev pub unset : List ℕ → Cell
 unset x = record { name = x; value = None; constant = true }
 
-abbrev pub with_items : Items → List Cell → List Cell
-with_items t.no_items cs = cs
-with_items (t.item x e is) cs = with_items is (with_cell (unset x) cs)
+abbrev pub with_items : ConstItems → List Cell → List Cell
+with_items t.no_consts cs = cs
+with_items (t.const_item x e is) cs = with_items is (with_cell (unset x) cs)
 
 -- the names that a list declares (14.2.3)
 abbrev pub with_names : Stmts → List Cell → List Cell

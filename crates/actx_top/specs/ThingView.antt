@@ -1,6 +1,6 @@
 -- What the code's things stand for.
 use Rattle.std.specs.Prelude.{List, map}
-use Rattle.actx_parse.specs.View.{stmts_view}
+use Rattle.actx_ast.specs.View.{stmts_view}
 use Rattle.actx_top.specs.Chains.{chain_of}
 use Rattle.actx_top.specs.State as m
 use Rattle.actx_top.specs.declared.thing.Method.{Method}

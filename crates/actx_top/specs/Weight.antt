@@ -3,59 +3,19 @@
 use Rattle.std.specs.Prelude.{ℕ, suc, ◌+◌, List, ◌∷◌, length}
 use Rattle.actx_match.specs.Runs.{cost}
 use Rattle.actx_data.specs.declared.event.Event.{Event}
-use Rattle.actx_parse.specs.declared.side.Side.TheVariants.{Source}
-use Rattle.actx_parse.specs.Tree as t
-use Rattle.actx_parse.specs.Tree.{Expr, Exprs, Properties, Items, Stmt, Stmts}
+use Rattle.actx_ast.specs.declared.side.Side.TheVariants.{Source}
+use Rattle.actx_ast.specs.Tree as t
+use Rattle.actx_ast.specs.Tree.{Stmts}
+use Rattle.actx_ast.specs.Nodes.{expr_nodes, stmt_nodes, stmts_nodes}
 use Rattle.actx_top.specs.State.{Throw, Task, Eval, Exec, ExecList, ExecBody, Given, Done, Call, Frame, Pending, Store, Now, Doing, Over, State}
 use Rattle.actx_top.specs.Machine.{step, start}
 
--- NODES: each expression, statement, binding name and key is one
-abbrev mutual
-  pub nodes : Expr → ℕ
-  nodes (t.Num n) = 1
-  nodes (t.Text u) = 1
-  nodes t.Undefined = 1
-  nodes t.This = 1
-  nodes (t.Named x) = 1
-  nodes (t.Binary op a b) = suc (nodes a + nodes b)
-  nodes (t.Member e key) = suc (suc (nodes e))
-  nodes (t.SetMember e key v) = suc (suc (nodes e + nodes v))
-  nodes (t.Call f es) = suc (nodes f + all_nodes es)
-  nodes (t.Object ps) = suc (properties_nodes ps)
-  nodes (t.Function kind xs ss) = suc (length xs + list_nodes ss)
-  nodes (t.Built form es) = suc (all_nodes es)
-
-  pub all_nodes : Exprs → ℕ
-  all_nodes t.none = 0
-  all_nodes (t.also e es) = nodes e + all_nodes es
-
-  pub properties_nodes : Properties → ℕ
-  properties_nodes t.no_properties = 0
-  properties_nodes (t.property key e ps) = suc (nodes e + properties_nodes ps)
-
-  pub items_nodes : Items → ℕ
-  items_nodes t.no_items = 0
-  items_nodes (t.item x e is) = suc (nodes e + items_nodes is)
-
-  pub statement_nodes : Stmt → ℕ
-  statement_nodes (t.Const is) = suc (items_nodes is)
-  statement_nodes (t.Value e) = suc (nodes e)
-  statement_nodes (t.Return e) = suc (nodes e)
-  statement_nodes t.ReturnNothing = 1
-  statement_nodes (t.Block ss) = suc (list_nodes ss)
-  statement_nodes (t.If e ss) = suc (nodes e + suc (list_nodes ss))
-  statement_nodes (t.Try ss ls) = suc (list_nodes ss + list_nodes ls)
-
-  pub list_nodes : Stmts → ℕ
-  list_nodes t.end = 0
-  list_nodes (t.next st ss) = statement_nodes st + list_nodes ss
-
 -- the nodes that a task begins
 abbrev pub begun_nodes : Task → ℕ
-begun_nodes (Eval e) = nodes e
-begun_nodes (Exec st) = statement_nodes st
-begun_nodes (ExecList ss) = list_nodes ss
-begun_nodes (ExecBody ss) = list_nodes ss
+begun_nodes (Eval e) = expr_nodes e
+begun_nodes (Exec st) = stmt_nodes st
+begun_nodes (ExecList ss) = stmts_nodes ss
+begun_nodes (ExecBody ss) = stmts_nodes ss
 begun_nodes (Given v) = 0
 begun_nodes (Done c) = 0
 begun_nodes (Call f r vs) = 0

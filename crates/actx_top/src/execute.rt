@@ -1,22 +1,21 @@
 //! Runs of accepted programs: a program is lowered, printed, parsed again, and what was parsed is run.
 
 ghost use Rattle.std.specs.Prelude.{◌≡◌, [], ℕ, List, IfOk};
-ghost use Rattle.actx_parse.specs.Accepts.{Accepts, ReadsPlain};
-ghost use Rattle.actx_parse.specs.Tree.{Stmts};
-ghost use Rattle.actx_parse.specs.View.{program_view};
+ghost use Rattle.actx_top.specs.Accepts.{Takes, ReadsPlain};
+ghost use Rattle.actx_ast.specs.View.{program_view};
 ghost use Rattle.actx_top.specs.Answers.{most_steps, run_shows};
 ghost use Rattle.actx_top.specs.Ending.{Ends};
 ghost use Rattle.actx_top.specs.Headline.{emitted};
+ghost use Rattle.actx_top.specs.Low.{low};
 ghost use Rattle.actx_top.specs.Meaning.{target_shows};
 
 use crate::lower::lower;
 use crate::machine::Target;
+use crate::read::read_back;
 use crate::render::render;
+use actx_ast::tree::Program;
 use actx_data::{End, NoMemory, Twin};
-use actx_parse::emit::emit;
-use actx_parse::read::{ReadFault, read_plain};
-use actx_parse::spell::spell;
-use actx_parse::tree::Program;
+use actx_emit::emit::emit;
 use std::alloc::Global;
 
 /// What a run has printed, and where it stands.
@@ -34,24 +33,18 @@ fn most_steps() -> u64
 }
 
 /// The text that is emitted for a program.
-fn emitted(alloc: Global, program: &Program) -> Result<Vec<u8>, NoMemory>
-    ensures { IfOk result (λ text. text.items ≡ emitted (program_view program.now)) }
+///
+/// # Errors
+///
+/// `NoMemory` where memory runs out.
+#[tactic(auto, using(crate::proofs::Emitted::takes_on, crate::proofs::Emitted::takes_deep))]
+pub fn emitted(alloc: Global, program: &Program) -> Result<Vec<u8>, NoMemory>
+    requires { (text : List ℕ) × Takes text (program_view program.now) }
+    ensures text { IfOk result (λ text. text.items ≡ emitted (program_view program.now)) }
+    ensures reads { IfOk result (λ text. ReadsPlain text.items (low (program_view program.now))) }
 {
     let plain = lower(alloc, program)?;
-    let tokens = spell(alloc, &plain)?;
-    emit(alloc, &tokens)
-}
-
-/// The plain program that a text is known to be.
-fn read_back(alloc: Global, text: &[u8]) -> Result<Program, NoMemory>
-    requires { (q : Stmts) × ReadsPlain text.now q }
-    ensures { (q : Stmts) → ReadsPlain text.now q → IfOk result (λ plain. program_view plain ≡ q) }
-{
-    match read_plain(alloc, text) {
-        Ok(plain) => Ok(plain),
-        Err(ReadFault::Refused) => unreachable!(),
-        Err(ReadFault::NoMemory) => Err(NoMemory),
-    }
+    emit(alloc, &plain)
 }
 
 /// The run of a plain program, without host events.
@@ -67,7 +60,7 @@ fn run_plain(alloc: Global, plain: &Program) -> Result<Run, NoMemory>
 
 /// The run of an accepted program's emitted text.
 pub fn execute(alloc: Global, program: &Program) -> Result<Run, NoMemory>
-    requires { (text : List ℕ) × Accepts text (program_view program.now) }
+    requires { (text : List ℕ) × Takes text (program_view program.now) }
     ensures { IfOk result (λ run. Ends run (run_shows (program_view program.now))) }
 {
     let text = emitted(alloc, program)?;

@@ -2,11 +2,12 @@
 
 ghost use Rattle.std.specs.Prelude.{◌≡◌, IfOk, string_bytes};
 ghost use Rattle.actx_ports.specs.Ports.{AddsPart};
-ghost use Rattle.actx_top.specs.Answers.{fault_line, fault_status, TellsAs, OutOfMemory, ThrewValue};
+ghost use Rattle.actx_top.specs.Answers.{fault_line, fault_status, refusal_name, TellsAs, OutOfMemory, Refused, ThrewValue};
 ghost use Rattle.actx_top.specs.FaultView.{fault_view};
 
 use crate::shown_text::shown_text;
 use actx_data::{NoMemory, Shown};
+use actx_lex::lines::Place;
 use actx_ports::{PortFault, Sink, write_whole};
 use std::alloc::Global;
 
@@ -21,7 +22,8 @@ const STILL_GOING: &str = "actx: still going after 20000000 steps\n";
 #[derive(Clone, Copy)]
 pub enum Fault<'a> {
     BadWords,
-    NotYet(&'a str),
+    /// The text of a file is refused, for the reason with this number, at a place.
+    Refused(&'a str, u8, Place),
     /// The run threw a value, which is shown so.
     ThrewValue(&'a Shown),
     LeftProfile,
@@ -39,13 +41,42 @@ fn threw_line(alloc: Global, shown: &Shown) -> Result<String, NoMemory>
     Ok(format!(in alloc; "actx: threw {text}\n")?)
 }
 
+/// The name of the reason with this number.
+fn refusal_name(number: u8) -> &'static str
+    ensures { result.now ≡ refusal_name number }
+{
+    match number {
+        1 => "NotUtf8",
+        2 => "BadToken",
+        3 => "TooLong",
+        4 => "BadNumber",
+        5 => "Unexpected",
+        6 => "TooDeep",
+        7 => "TooMany",
+        8 => "Undeclared",
+        9 => "Twice",
+        10 => "Reserved",
+        11 => "Misplaced",
+        _ => "NotYet",
+    }
+}
+
+/// The line on a text that is refused.
+fn refusal_line(alloc: Global, name: &str, number: u8, place: Place) -> Result<String, NoMemory>
+    ensures { IfOk result (λ line. string_bytes line ≡ fault_line (Refused name.now number place.line place.column)) }
+{
+    let Place { line, column } = place;
+    let reason = refusal_name(number);
+    Ok(format!(in alloc; "actx: {name}:{line}:{column}: {number} {reason}\n")?)
+}
+
 /// The line that tells a fault.
 fn line_of(alloc: Global, fault: Fault<'_>) -> Result<String, NoMemory>
     ensures { IfOk result (λ line. string_bytes line ≡ fault_line (fault_view fault.entry)) }
 {
     match fault {
         Fault::BadWords => Ok(String::from_str(alloc, USAGE)?),
-        Fault::NotYet(name) => Ok(format!(in alloc; "actx: {name}:1:1: 13 NotYet\n")?),
+        Fault::Refused(name, number, place) => refusal_line(alloc, name, number, place),
         Fault::ThrewValue(shown) => threw_line(alloc, shown),
         Fault::LeftProfile => Ok(String::from_str(alloc, "actx: left the profile\n")?),
         Fault::StillGoing => Ok(String::from_str(alloc, STILL_GOING)?),
@@ -61,7 +92,7 @@ fn status_of(fault: Fault<'_>) -> u8
 {
     match fault {
         Fault::BadWords => 2,
-        Fault::NotYet(_) => 3,
+        Fault::Refused(_, _, _) => 3,
         Fault::ThrewValue(_) => 1,
         Fault::LeftProfile => 4,
         Fault::StillGoing => 5,

@@ -6,8 +6,8 @@ ghost use Rattle.std.specs.Cmp.Rules.{comparing, hashing};
 ghost use Rattle.std.specs.Cmp.Lexicographic.{pointwise};
 ghost use Rattle.std.specs.Hash as fed;
 
+use actx_ast::name::Name;
 use actx_data::{NoMemory, Units};
-use actx_parse::name::Name;
 use std::alloc::Global;
 use std::hash::{Hash, Hasher};
 use std::marker::Model;

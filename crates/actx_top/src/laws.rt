@@ -2,11 +2,13 @@
 
 ghost use Rattle.std.specs.Prelude.{ℕ, List};
 ghost use Rattle.actx_data.specs.declared.event.Event.{Event};
-ghost use Rattle.actx_parse.specs.declared.token.TokenKind.{TokenKind};
-ghost use Rattle.actx_parse.specs.declared.side.Side.TheVariants.{Source, Plain};
-ghost use Rattle.actx_parse.specs.Grammar.{SpellsStmts};
-ghost use Rattle.actx_parse.specs.Static.{IsTaken};
-ghost use Rattle.actx_parse.specs.Tree.{Stmts};
+ghost use Rattle.actx_ast.specs.declared.side.Side.TheVariants.{Source, Plain};
+ghost use Rattle.actx_ast.specs.Grammar.{IsSpelled};
+ghost use Rattle.actx_ast.specs.Layout.{laid};
+ghost use Rattle.actx_ast.specs.Lexemes.{Lexeme};
+ghost use Rattle.actx_ast.specs.Spell.{spell_program};
+ghost use Rattle.actx_top.specs.Taken.{IsTaken};
+ghost use Rattle.actx_ast.specs.Tree.{Stmts};
 ghost use Rattle.actx_match.specs.Matching.{WithinFactor};
 ghost use Rattle.actx_top.specs.Laws.{Laws};
 ghost use Rattle.actx_top.specs.Weight.{source_cost};
@@ -25,9 +27,9 @@ pub fn source_and_target_match()
     ensures { (p : Stmts) → IsTaken p → Same p (low p) }
 {}
 
-/// Some tokens of the plain side spell the emitted program.
+/// The emitted program's own tokens spell it on the plain side.
 pub fn emitted_is_spelled()
-    ensures { (p : Stmts) (x : List TokenKind) → SpellsStmts Source 200 p x → IsTaken p → (y : List TokenKind) × SpellsStmts Plain 32768 (low p) y }
+    ensures { (p : Stmts) (x : List Lexeme) → IsSpelled Source p x → IsTaken p → IsSpelled Plain (low p) (laid (spell_program (low p))) }
 {}
 
 /// What a program shows after some steps, its emitted program shows after at most 1,024 times the weights of these steps.

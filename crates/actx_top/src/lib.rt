@@ -12,15 +12,18 @@ mod laws;
 mod line;
 mod lower;
 mod machine;
+mod mode;
 mod operators;
 mod prelude;
 mod property;
+mod read;
 mod render;
 mod scope;
 mod shown;
 mod shown_text;
 mod sound;
 mod table;
+mod taken;
 mod thing;
 mod top;
 mod word;
@@ -28,4 +31,5 @@ mod word;
 pub use laws::{
     emitted_is_spelled, emitted_work_is_bounded, prelude_keeps_the_mapping, source_and_target_match,
 };
-pub use top::actx;
+pub use read::TextFault;
+pub use top::{actx, lower_text};

@@ -1,15 +1,16 @@
 //! The lowering: the prelude, and behind it the program with its names renamed, as `const p_a = 1;` of `const a = 1;`.
 
 ghost use Rattle.std.specs.Prelude.{◌≡◌, IfOk, option_map};
-ghost use Rattle.actx_parse.specs.View.{expr_view, returned, exprs_view, item_view, items_view, function_view, property_view, properties_view, stmt_view, stmts_view, program_view};
-ghost use Rattle.actx_parse.specs.Tree.{Named};
+ghost use Rattle.actx_ast.specs.View.{expr_view, maybe_expr, exprs_view, const_view, consts_view, function_view, key_view, prop_key_view, property_view, properties_view, stmt_view, stmts_view, program_view};
+ghost use Rattle.actx_ast.specs.Tree.{Named};
 ghost use Rattle.actx_top.specs.Prelude.{name_variable};
-ghost use Rattle.actx_top.specs.Low.{p_, names_renamed, form_emitted, renamed, all_renamed, properties_renamed, items_renamed, stmt_renamed, program_renamed, low};
+ghost use Rattle.actx_top.specs.Low.{p_, names_renamed, own_renamed, form_emitted, renamed, key_renamed, prop_key_renamed, code_renamed, value_renamed, all_renamed, properties_renamed, items_renamed, stmt_renamed, program_renamed, low};
 
 use crate::prelude::prelude;
+use actx_ast::name::Name;
+use actx_ast::operators::Form;
+use actx_ast::tree::{ConstItem, Expr, Function, Key, Program, PropKey, Property, Stmt};
 use actx_data::{NoMemory, Twin};
-use actx_parse::name::Name;
-use actx_parse::tree::{ConstItem, Expr, Form, Function, Program, Property, Stmt};
 use std::alloc::Global;
 
 /// A name of the program as it is emitted: with `p_` before it.
@@ -32,6 +33,16 @@ fn names_renamed(alloc: Global, names: &Vec<Name>) -> Result<Vec<Name>, NoMemory
     Ok(made)
 }
 
+/// A function's own name as it is emitted.
+fn own_renamed(alloc: Global, name: &Option<Name>) -> Result<Option<Name>, NoMemory>
+    ensures { IfOk result (λ made. made ≡ own_renamed name.now) }
+{
+    match name {
+        None => Ok(None),
+        Some(name) => Ok(Some(rename(alloc, name)?)),
+    }
+}
+
 /// The prelude's function that makes a variable.
 fn variable_maker(alloc: Global) -> Result<Expr, NoMemory>
     ensures { IfOk result (λ d. expr_view d ≡ Named name_variable) }
@@ -46,9 +57,7 @@ fn form_emitted(alloc: Global, form: Form, parts: Vec<Expr>) -> Result<Expr, NoM
 {
     match form {
         Form::NewVariable => Ok(Expr::Call(Box::new(alloc, variable_maker(alloc)?)?, parts)),
-        Form::Log | Form::NewWeakMap | Form::Freeze | Form::CallWith | Form::Note => {
-            Ok(Expr::Form(form, parts))
-        }
+        _ => Ok(Expr::Form(form, parts)),
     }
 }
 
@@ -70,12 +79,7 @@ fn renamed(alloc: Global, e: &Expr) -> Result<Expr, NoMemory>
         }
         Expr::Member(base, key) => {
             let base = Box::new(alloc, renamed(alloc, base)?)?;
-            Ok(Expr::Member(base, key.copy(alloc)?))
-        }
-        Expr::SetMember(base, key, value) => {
-            let base = Box::new(alloc, renamed(alloc, base)?)?;
-            let key = key.copy(alloc)?;
-            Ok(Expr::SetMember(base, key, Box::new(alloc, renamed(alloc, value)?)?))
+            Ok(Expr::Member(base, key_renamed(alloc, key)?))
         }
         Expr::Call(callee, args) => {
             let callee = Box::new(alloc, renamed(alloc, callee)?)?;
@@ -86,6 +90,29 @@ fn renamed(alloc: Global, e: &Expr) -> Result<Expr, NoMemory>
             Ok(Expr::Function(Box::new(alloc, function_renamed(alloc, function)?)?))
         }
         Expr::Form(form, parts) => form_emitted(alloc, *form, all_renamed(alloc, parts)?),
+        _ => Ok(Expr::Undefined),
+    }
+}
+
+/// The key of a member as it is emitted: a name stays.
+#[cycle(renamed)]
+fn key_renamed(alloc: Global, key: &Key) -> Result<Key, NoMemory>
+    ensures { IfOk result (λ made. key_view made ≡ key_renamed (key_view key.now)) }
+{
+    match key {
+        Key::Dot(name) => Ok(Key::Dot(name.copy(alloc)?)),
+        Key::Index(e) => Ok(Key::Index(Box::new(alloc, renamed(alloc, e)?)?)),
+    }
+}
+
+/// The key of a property as it is emitted: one that is fixed stays.
+#[cycle(renamed)]
+fn prop_key_renamed(alloc: Global, key: &PropKey) -> Result<PropKey, NoMemory>
+    ensures { IfOk result (λ made. prop_key_view made ≡ prop_key_renamed (prop_key_view key.now)) }
+{
+    match key {
+        PropKey::Fixed(units) => Ok(PropKey::Fixed(units.copy(alloc)?)),
+        PropKey::Computed(e) => Ok(PropKey::Computed(Box::new(alloc, renamed(alloc, e)?)?)),
     }
 }
 
@@ -101,12 +128,12 @@ fn all_renamed(alloc: Global, es: &Vec<Expr>) -> Result<Vec<Expr>, NoMemory>
     Ok(made)
 }
 
-/// A property as it is emitted: its key stays.
+/// A property as it is emitted.
 #[cycle(renamed)]
 fn property_renamed(alloc: Global, property: &Property) -> Result<Property, NoMemory>
-    ensures { IfOk result (λ made. property_view made ≡ ((property_view property.now).0, renamed (property_view property.now).1)) }
+    ensures { IfOk result (λ made. property_view made ≡ (prop_key_renamed (property_view property.now).0, renamed (property_view property.now).1)) }
 {
-    let key = property.key.copy(alloc)?;
+    let key = prop_key_renamed(alloc, &property.key)?;
     let value = renamed(alloc, &property.value)?;
     Ok(Property { key, value })
 }
@@ -126,11 +153,13 @@ fn properties_renamed(alloc: Global, properties: &Vec<Property>) -> Result<Vec<P
 /// A function as it is emitted.
 #[cycle(renamed)]
 fn function_renamed(alloc: Global, function: &Function) -> Result<Function, NoMemory>
-    ensures { IfOk result (λ made. function_view made ≡ renamed (function_view function.now)) }
+    ensures { IfOk result (λ made. function_view made ≡ code_renamed (function_view function.now)) }
 {
+    let name = own_renamed(alloc, &function.name)?;
     let params = names_renamed(alloc, &function.params)?;
     let body = program_renamed(alloc, &function.body)?;
     Ok(Function {
+        name,
         kind: function.kind,
         params,
         body,
@@ -140,7 +169,7 @@ fn function_renamed(alloc: Global, function: &Function) -> Result<Function, NoMe
 /// An item of a const as it is emitted.
 #[cycle(renamed)]
 fn item_renamed(alloc: Global, item: &ConstItem) -> Result<ConstItem, NoMemory>
-    ensures { IfOk result (λ made. item_view made ≡ (p_ (item_view item.now).0, renamed (item_view item.now).1)) }
+    ensures { IfOk result (λ made. const_view made ≡ (p_ (const_view item.now).0, renamed (const_view item.now).1)) }
 {
     let name = rename(alloc, &item.name)?;
     let value = renamed(alloc, &item.value)?;
@@ -150,7 +179,7 @@ fn item_renamed(alloc: Global, item: &ConstItem) -> Result<ConstItem, NoMemory>
 /// Items of a const as they are emitted.
 #[cycle(renamed)]
 fn items_renamed(alloc: Global, items: &Vec<ConstItem>) -> Result<Vec<ConstItem>, NoMemory>
-    ensures { IfOk result (λ made. items_view made.items ≡ items_renamed (items_view items.now.items)) }
+    ensures { IfOk result (λ made. consts_view made.items ≡ items_renamed (consts_view items.now.items)) }
 {
     let mut made = Vec::new(alloc);
     for item in items {
@@ -162,7 +191,7 @@ fn items_renamed(alloc: Global, items: &Vec<ConstItem>) -> Result<Vec<ConstItem>
 /// What a function returns as it is emitted.
 #[cycle(renamed)]
 fn value_renamed(alloc: Global, value: &Option<Expr>) -> Result<Option<Expr>, NoMemory>
-    ensures { IfOk result (λ made. returned (option_map expr_view made) ≡ stmt_renamed (returned (option_map expr_view value.now))) }
+    ensures { IfOk result (λ made. maybe_expr (option_map expr_view made) ≡ value_renamed (maybe_expr (option_map expr_view value.now))) }
 {
     match value {
         None => Ok(None),
@@ -179,17 +208,7 @@ fn statement_renamed(alloc: Global, statement: &Stmt) -> Result<Stmt, NoMemory>
         Stmt::Const(items) => Ok(Stmt::Const(items_renamed(alloc, items)?)),
         Stmt::Value(e) => Ok(Stmt::Value(renamed(alloc, e)?)),
         Stmt::Return(value) => Ok(Stmt::Return(value_renamed(alloc, value)?)),
-        Stmt::Block(statements) => Ok(Stmt::Block(program_renamed(alloc, statements)?)),
-        Stmt::If { test, yes } => {
-            let test = renamed(alloc, test)?;
-            let yes = program_renamed(alloc, yes)?;
-            Ok(Stmt::If { test, yes })
-        }
-        Stmt::Try { block, last } => {
-            let block = program_renamed(alloc, block)?;
-            let last = program_renamed(alloc, last)?;
-            Ok(Stmt::Try { block, last })
-        }
+        _ => Ok(Stmt::Empty),
     }
 }
 

@@ -1,8 +1,8 @@
 //! The machine that runs a plain program, one row of the step table a step.
 
 ghost use Rattle.std.specs.Prelude.{◌≡◌, [], IfOk, reverse};
-ghost use Rattle.actx_parse.specs.declared.side.Side.TheVariants.{Plain};
-ghost use Rattle.actx_parse.specs.View.{stmts_view};
+ghost use Rattle.actx_ast.specs.declared.side.Side.TheVariants.{Plain};
+ghost use Rattle.actx_ast.specs.View.{stmts_view};
 ghost use Rattle.actx_top.specs.Machine.{start, first_heap};
 ghost use Rattle.actx_top.specs.MachineView.{state_of};
 ghost use Rattle.actx_top.specs.ThingView.{things_of};
@@ -22,9 +22,11 @@ use crate::scope::Scope;
 use crate::shown::ShownThings;
 use crate::sound::Sound;
 use crate::thing::{Method, Thing};
+use actx_ast::name::Name;
+use actx_ast::operators::BinaryOp;
+use actx_ast::tree::{ConstItem, Expr, Property, Stmt};
 use actx_data::{End, Event, NoMemory, TraceEvent};
-use actx_parse::name::Name;
-use actx_parse::tree::{BinaryOp, ConstItem, Expr, Property, Stmt};
+pub use expressions::count;
 use std::alloc::Global;
 
 /// How the work on a part ended.
@@ -43,8 +45,6 @@ pub enum Task<'a> {
     /// A list with a scope of its own, and a function's body, whose scope the call has made.
     ExecList(&'a [Stmt]),
     ExecBody(&'a [Stmt]),
-    /// The branch of an if, a block that is a list in the tree.
-    ExecBlock(&'a [Stmt]),
     Given(Sound),
     Done(Completion),
     /// A call of the first value, with the second as the receiver.
@@ -110,8 +110,8 @@ pub enum Frame<'a> {
     /// A statement that drops its expression's value, and one that returns it.
     Value,
     Return,
-    /// The branch behind a test.
-    If(&'a [Stmt]),
+    /// What is done where a test holds, and where it doesn't.
+    If(&'a Stmt, &'a Option<Box<Stmt>>),
     /// The block of a try, with its last part and the scopes round it; and the last part, with the completion that is kept.
     Try(&'a [Stmt], Chain),
     Last(Completion),

@@ -8,8 +8,8 @@ ghost use Rattle.actx_top.specs.Operators.{plus, minus, times, binary, same, is_
 ghost use Rattle.actx_top.specs.View.{answer_view};
 
 use crate::sound::Sound;
+use actx_ast::operators::BinaryOp;
 use actx_data::{ErrorName, NoMemory, Twin, Units, Value, add, join, mul, number_text, sub};
-use actx_parse::tree::BinaryOp;
 use std::alloc::Global;
 
 /// The answer of an operation.
@@ -172,5 +172,6 @@ pub fn binary(alloc: Global, op: BinaryOp, a: &Sound, b: &Sound) -> Result<Answe
         BinaryOp::Sub => Ok(minus(a.value(), b.value())),
         BinaryOp::Mul => Ok(times(a.value(), b.value())),
         BinaryOp::Same => Ok(Answer::Gives(Sound::truth(same(a.value(), b.value())))),
+        _ => Ok(Answer::Leaves),
     }
 }

@@ -1,16 +1,17 @@
 //! The prelude that stands before every emitted program, as a tree; its text and what each function does stand in specs.
 
 ghost use Rattle.std.specs.Prelude.{◌≡◌, IfOk, [], ◌∷◌, codes};
-ghost use Rattle.actx_parse.specs.Tree as t;
-ghost use Rattle.actx_parse.specs.View.{expr_view, exprs_view, stmt_view, stmts_view};
+ghost use Rattle.actx_ast.specs.Tree as t;
+ghost use Rattle.actx_ast.specs.View.{expr_view, exprs_view, stmt_view, stmts_view};
 ghost use Rattle.actx_top.specs.Prelude as spec;
 
 mod functions;
 mod shapes;
 
+use actx_ast::name::Name;
+use actx_ast::operators::{Form, FunctionKind};
+use actx_ast::tree::{Expr, Function, Stmt};
 use actx_data::{NoMemory, Units};
-use actx_parse::name::Name;
-use actx_parse::tree::{Expr, Form, Function, FunctionKind, Stmt};
 use functions::{find_body, get_body, make_body, run_body, variable_body, with_body};
 use shapes::{and_name, both, constant, property, then, units};
 use std::alloc::Global;
@@ -22,9 +23,15 @@ fn function(
     params: Vec<Name>,
     body: Vec<Stmt>,
 ) -> Result<Expr, NoMemory>
-    ensures { IfOk result (λ e. expr_view e ≡ t.Function kind params.items (stmts_view body.items)) }
+    ensures { IfOk result (λ e. expr_view e ≡ spec.function_of kind params.items (stmts_view body.items)) }
 {
-    Ok(Expr::Function(Box::new(alloc, Function { kind, params, body })?))
+    let function = Function {
+        name: None,
+        kind,
+        params,
+        body,
+    };
+    Ok(Expr::Function(Box::new(alloc, function)?))
 }
 
 /// Two names.
@@ -109,7 +116,7 @@ fn states(alloc: Global) -> Result<Stmt, NoMemory>
 
 /// The record of the current mapping and of how many variables there are.
 fn now(alloc: Global) -> Result<Stmt, NoMemory>
-    ensures { IfOk result (λ s. stmt_view s ≡ spec.const spec.name_now (t.Object (t.property spec.key_mapping t.Undefined (t.property spec.key_count (t.Num 0) t.no_properties)))) }
+    ensures { IfOk result (λ s. stmt_view s ≡ spec.const spec.name_now (t.Object (spec.keyed spec.key_mapping t.Undefined (spec.keyed spec.key_count (t.Num 0) t.no_properties)))) }
 {
     let mapping = property(alloc, b"mapping", Expr::Undefined)?;
     let count = property(alloc, b"count", Expr::Num(0))?;
@@ -122,7 +129,7 @@ fn now(alloc: Global) -> Result<Stmt, NoMemory>
 
 /// What the functions use: the states and the record of the current mapping.
 fn begun(alloc: Global) -> Result<Vec<Stmt>, NoMemory>
-    ensures { IfOk result (λ v. stmts_view v.items ≡ t.next (t.Value (t.Text (codes "use strict"))) (t.next (spec.const spec.name_states (t.Built Form.NewWeakMap t.none)) (t.next (spec.const spec.name_now (t.Object (t.property spec.key_mapping t.Undefined (t.property spec.key_count (t.Num 0) t.no_properties)))) t.end))) }
+    ensures { IfOk result (λ v. stmts_view v.items ≡ t.next (t.Value (t.Text (codes "use strict"))) (t.next (spec.const spec.name_states (t.Built Form.NewWeakMap t.none)) (t.next (spec.const spec.name_now (t.Object (spec.keyed spec.key_mapping t.Undefined (spec.keyed spec.key_count (t.Num 0) t.no_properties)))) t.end))) }
 {
     let list = both(alloc, use_strict(alloc)?, states(alloc)?)?;
     then(list, now(alloc)?)

@@ -12,8 +12,8 @@ use crate::sound::Sound;
 use crate::table::Table;
 use crate::thing::Thing;
 use crate::word::{is_inherited, is_word};
+use actx_ast::name::Name;
 use actx_data::{ErrorName, NoMemory, Twin, Units, Value};
-use actx_parse::name::Name;
 use std::alloc::Global;
 
 /// The greatest number of the profile.

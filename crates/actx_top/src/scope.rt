@@ -2,14 +2,14 @@
 
 ghost use Rattle.std.specs.Prelude.{◌≡◌, ◌++◌, [], map, OnOk, IfOk, option_map, position};
 ghost use Rattle.std.specs.Option.{option_copied};
-ghost use Rattle.actx_parse.specs.Lexical.{same_text};
+ghost use Rattle.actx_top.specs.Texts.{same_text};
 ghost use Rattle.actx_top.specs.Cells.{cell_in, named_cell, cells_in, slot_of, found_cell, Replaced};
 ghost use Rattle.actx_top.specs.State.{cell_of, set_cell, with_cell, unset, param};
 ghost use Rattle.actx_top.specs.View.{reading_of, found_value, standing_of};
 
 use crate::sound::Sound;
+use actx_ast::name::Name;
 use actx_data::{NoMemory, Twin};
-use actx_parse::name::Name;
 use indexmap::IndexMap;
 use std::alloc::Global;
 use std::marker::Model;

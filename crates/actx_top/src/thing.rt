@@ -4,8 +4,8 @@ use crate::chain::Chain;
 use crate::entries::Entries;
 use crate::sound::Sound;
 use crate::table::Table;
+use actx_ast::tree::Function;
 use actx_data::{ErrorName, Units};
-use actx_parse::tree::Function;
 
 /// The functions that the machine brings along.
 #[derive(Clone, Copy, Drop)]

@@ -1,32 +1,40 @@
 //! The top call: all that the program does, over the words, the files and the two outputs that it is handed.
 
-ghost use Rattle.std.specs.Prelude.{◌≡◌, ◌≢◌, ◌⊎◌, ◌==◌, ◌+◌, ℕ, List, length, take, map, true, false, string_bytes, codes, Some, IfSome, IfNone};
+ghost use Rattle.std.specs.Prelude.{◌≡◌, ◌≢◌, ◌⊎◌, ◌==◌, ◌+◌, ℕ, List, length, take, map, Option, string_bytes, codes, Some, None, IfSome, IfNone, IfOk, IfErr};
 ghost use Rattle.actx_ports.specs.Ports.{Rose};
-ghost use Rattle.actx_parse.specs.Accepts.{Accepts};
-ghost use Rattle.actx_parse.specs.Lexical.{same_text};
-ghost use Rattle.actx_parse.specs.Tree.{Stmts};
-ghost use Rattle.actx_parse.specs.View.{program_view};
-ghost use Rattle.actx_top.specs.Answers.{begins_with_dash, is_command, file_of, run_shows, status_of, Ran, Wrote, TellsThrow, Explains};
-ghost use Rattle.actx_top.specs.Headline.{Matches};
+ghost use Rattle.actx_ast.specs.Tree.{Stmts};
+ghost use Rattle.actx_ast.specs.View.{program_view};
+ghost use Rattle.actx_top.specs.Accepts.{Takes};
+ghost use Rattle.actx_top.specs.Answers.{begins_with_dash, mode_named, command_of, file_of, run_shows, status_of, status_in, output_in, Did, Wrote, TellsThrow, TellsRefusal, Explains};
+ghost use Rattle.actx_top.specs.Faults.{Says};
+ghost use Rattle.actx_top.specs.Headline.{IsLowered, Matches};
 ghost use Rattle.actx_top.specs.Low.{low};
+ghost use Rattle.actx_top.specs.declared.read.TextFault.TheVariants as fault;
 ghost use Rattle.actx_top.specs.Meaning.{lines_of};
 
-use crate::execute::{Run, execute};
+use crate::execute::{Run, emitted, execute};
 use crate::fault::{Fault, tell};
-use actx_data::End;
-use actx_parse::read::{ReadFault, read_program};
-use actx_parse::tree::Program;
+use crate::mode::Mode;
+use crate::read::{TextFault, read_source};
+use actx_ast::tree::Program;
+use actx_data::{End, NoMemory};
 use actx_ports::{Cabinet, PortFault, Sink, read_whole, write_whole};
 use std::alloc::Global;
 
 /// How much of a program text is read: a byte more than a text may have.
 const MOST_READ: usize = 1_048_577;
 
-/// Whether a word is the mode `run`.
-fn is_run(word: &str) -> bool
-    ensures { result ≡ same_text word.now (codes "run") }
+/// The mode that a word names.
+fn mode_named(word: &str) -> Option<Mode>
+    ensures { result ≡ mode_named word.now }
 {
-    word.as_bytes() == b"run".as_slice()
+    if word.as_bytes() == b"run".as_slice() {
+        Some(Mode::Run)
+    } else if word.as_bytes() == b"lower".as_slice() {
+        Some(Mode::Lower)
+    } else {
+        None
+    }
 }
 
 /// Whether a word begins with `-`.
@@ -39,20 +47,29 @@ fn begins_with_dash(word: &str) -> bool
     }
 }
 
-/// The file that a command line names; `None` exactly where the words are no command line.
-fn command(words: &[String]) -> Option<&str>
-    ensures file { IfSome result (λ file. (is_command (map string_bytes words.entry.now) ≡ true) × (file.now ≡ file_of (map string_bytes words.entry.now))) }
-    ensures none { IfNone result (is_command (map string_bytes words.entry.now) ≡ false) }
+/// The mode of a command line; `None` exactly where the words are none.
+fn mode_of(words: &[String]) -> Option<Mode>
+    ensures { result ≡ command_of (map string_bytes words.now) }
 {
     match words {
         [mode, file] => {
-            if is_run(mode.as_str()) && !begins_with_dash(file.as_str()) {
-                Some(file.as_str())
-            } else {
+            if begins_with_dash(file.as_str()) {
                 None
+            } else {
+                mode_named(mode.as_str())
             }
         }
         _ => None,
+    }
+}
+
+/// The file that a command line names.
+fn file_of(words: &[String]) -> &str
+    ensures { result.now ≡ file_of (map string_bytes words.entry.now) }
+{
+    match words {
+        [_, file, ..] => file.as_str(),
+        _ => "",
     }
 }
 
@@ -84,15 +101,15 @@ fn write_run<O: Sink, F: Sink>(alloc: Global, run: &Run, out: &mut O, faults: &m
     }
 }
 
-/// Runs an accepted program.
+/// Runs a program.
 fn run_program<O: Sink, F: Sink>(
     alloc: Global,
     program: &Program,
     out: &mut O,
     faults: &mut F,
 ) -> u8
-    requires { (text : List ℕ) × Accepts text (program_view program.now) }
-    ensures ran { Ran result (program_view program.now) (O.written out.old) (O.written out.new) }
+    requires { (text : List ℕ) × Takes text (program_view program.now) }
+    ensures did { Did result Mode.Run (program_view program.now) (O.written out.old) (O.written out.new) }
     ensures threw { result ≡ 1 → TellsThrow (run_shows (program_view program.now)).end (F.written faults.old) (F.written faults.new) (F.faults faults.old) (F.faults faults.new) }
     ensures never { (result ≢ 2) × ((result ≢ 3) × (result ≢ 6)) }
     ensures unwritten { result ≡ 7 → Rose (O.faults out.old) (O.faults out.new) }
@@ -104,42 +121,102 @@ fn run_program<O: Sink, F: Sink>(
     }
 }
 
-/// Runs the program that a text is.
-fn run_text<O: Sink, F: Sink>(
+/// Writes a text.
+fn write_text<O: Sink, F: Sink>(alloc: Global, text: &[u8], out: &mut O, faults: &mut F) -> u8
+    ensures wrote { Wrote result 0 text.now (O.written out.old) (O.written out.new) }
+    ensures never { (result ≢ 1) × ((result ≢ 2) × ((result ≢ 3) × (result ≢ 6))) }
+    ensures unwritten { result ≡ 7 → Rose (O.faults out.old) (O.faults out.new) }
+    ensures says { (file : List ℕ) → Explains result file (F.written faults.old) (F.written faults.new) (F.faults faults.old) (F.faults faults.new) }
+{
+    match write_whole(out, text) {
+        Ok(()) => 0,
+        Err(PortFault::Failed) => tell(alloc, faults, Fault::CannotWrite),
+        Err(PortFault::NoMemory) => tell(alloc, faults, Fault::OutOfMemory),
+    }
+}
+
+/// Writes the text that is emitted for a program.
+fn lower_program<O: Sink, F: Sink>(
     alloc: Global,
+    program: &Program,
+    out: &mut O,
+    faults: &mut F,
+) -> u8
+    requires { (text : List ℕ) × Takes text (program_view program.now) }
+    ensures did { Did result Mode.Lower (program_view program.now) (O.written out.old) (O.written out.new) }
+    ensures never { (result ≢ 1) × ((result ≢ 2) × ((result ≢ 3) × (result ≢ 6))) }
+    ensures unwritten { result ≡ 7 → Rose (O.faults out.old) (O.faults out.new) }
+    ensures says { (file : List ℕ) → Explains result file (F.written faults.old) (F.written faults.new) (F.faults faults.old) (F.faults faults.new) }
+{
+    match emitted(alloc, program) {
+        Ok(text) => write_text(alloc, &text, out, faults),
+        Err(NoMemory) => tell(alloc, faults, Fault::OutOfMemory),
+    }
+}
+
+/// Does what a mode does with a program.
+fn do_mode<O: Sink, F: Sink>(
+    alloc: Global,
+    mode: Mode,
+    program: &Program,
+    out: &mut O,
+    faults: &mut F,
+) -> u8
+    requires { (text : List ℕ) × Takes text (program_view program.now) }
+    ensures did { Did result mode (program_view program.now) (O.written out.old) (O.written out.new) }
+    ensures threw { result ≡ 1 → TellsThrow (run_shows (program_view program.now)).end (F.written faults.old) (F.written faults.new) (F.faults faults.old) (F.faults faults.new) }
+    ensures never { (result ≢ 2) × ((result ≢ 3) × (result ≢ 6)) }
+    ensures unwritten { result ≡ 7 → Rose (O.faults out.old) (O.faults out.new) }
+    ensures says { (file : List ℕ) → Explains result file (F.written faults.old) (F.written faults.new) (F.faults faults.old) (F.faults faults.new) }
+{
+    match mode {
+        Mode::Run => run_program(alloc, program, out, faults),
+        Mode::Lower => lower_program(alloc, program, out, faults),
+    }
+}
+
+/// Does what a mode does with the program that a text is.
+fn do_text<O: Sink, F: Sink>(
+    alloc: Global,
+    mode: Mode,
     name: &str,
     text: &[u8],
     out: &mut O,
     faults: &mut F,
 ) -> u8
-    ensures refused { result ≡ 3 → (p : Stmts) → Accepts text.now p → ⊥ }
-    ensures ran { (p : Stmts) → Accepts text.now p → Ran result p (O.written out.old) (O.written out.new) }
-    ensures threw { (p : Stmts) → Accepts text.now p → result ≡ 1 → TellsThrow (run_shows p).end (F.written faults.old) (F.written faults.new) (F.faults faults.old) (F.faults faults.new) }
-    ensures refuses { ((p : Stmts) → Accepts text.now p → ⊥) → (result ≡ 3) ⊎ (result ≡ 70) }
+    ensures refused { result ≡ 3 → (p : Stmts) → Takes text.now p → ⊥ }
+    ensures refusal { result ≡ 3 → TellsRefusal name.now text.now (F.written faults.old) (F.written faults.new) (F.faults faults.old) (F.faults faults.new) }
+    ensures did { (p : Stmts) → Takes text.now p → Did result mode p (O.written out.old) (O.written out.new) }
+    ensures threw { (p : Stmts) → Takes text.now p → result ≡ 1 → TellsThrow (run_shows p).end (F.written faults.old) (F.written faults.new) (F.faults faults.old) (F.faults faults.new) }
+    ensures refuses { ((p : Stmts) → Takes text.now p → ⊥) → (result ≡ 3) ⊎ (result ≡ 70) }
     ensures never { (result ≢ 2) × (result ≢ 6) }
     ensures silent { result ≡ 3 → O.written out.new ≡ O.written out.old }
     ensures unwritten { result ≡ 7 → Rose (O.faults out.old) (O.faults out.new) }
     ensures says { Explains result name.now (F.written faults.old) (F.written faults.new) (F.faults faults.old) (F.faults faults.new) }
 {
-    match read_program(alloc, text) {
-        Ok(program) => run_program(alloc, &program, out, faults),
-        Err(ReadFault::Refused) => tell(alloc, faults, Fault::NotYet(name)),
-        Err(ReadFault::NoMemory) => tell(alloc, faults, Fault::OutOfMemory),
+    match read_source(alloc, text) {
+        Ok(program) => do_mode(alloc, mode, &program, out, faults),
+        Err(TextFault::Refused { number, place }) => {
+            tell(alloc, faults, Fault::Refused(name, number, place))
+        }
+        Err(TextFault::NoMemory) => tell(alloc, faults, Fault::OutOfMemory),
     }
 }
 
-/// Runs the program of a file.
-fn run_file<C: Cabinet, O: Sink, F: Sink>(
+/// Does what a mode does with the program of a file.
+fn do_file<C: Cabinet, O: Sink, F: Sink>(
     alloc: Global,
+    mode: Mode,
     name: &str,
     files: &mut C,
     out: &mut O,
     faults: &mut F,
 ) -> u8
-    ensures refused { (bytes : List ℕ) → C.held files.old name.now ≡ Some bytes → result ≡ 3 → (p : Stmts) → Accepts bytes p → ⊥ }
-    ensures ran { (bytes : List ℕ) → C.held files.old name.now ≡ Some bytes → (p : Stmts) → Accepts bytes p → Ran result p (O.written out.old) (O.written out.new) }
-    ensures threw { (bytes : List ℕ) → C.held files.old name.now ≡ Some bytes → (p : Stmts) → Accepts bytes p → result ≡ 1 → TellsThrow (run_shows p).end (F.written faults.old) (F.written faults.new) (F.faults faults.old) (F.faults faults.new) }
-    ensures refuses { (bytes : List ℕ) → C.held files.old name.now ≡ Some bytes → ((p : Stmts) → Accepts bytes p → ⊥) → (result ≡ 3) ⊎ ((result ≡ 6) ⊎ (result ≡ 70)) }
+    ensures refused { (bytes : List ℕ) → C.held files.old name.now ≡ Some bytes → result ≡ 3 → (p : Stmts) → Takes bytes p → ⊥ }
+    ensures refusal { (bytes : List ℕ) → C.held files.old name.now ≡ Some bytes → result ≡ 3 → TellsRefusal name.now bytes (F.written faults.old) (F.written faults.new) (F.faults faults.old) (F.faults faults.new) }
+    ensures did { (bytes : List ℕ) → C.held files.old name.now ≡ Some bytes → (p : Stmts) → Takes bytes p → Did result mode p (O.written out.old) (O.written out.new) }
+    ensures threw { (bytes : List ℕ) → C.held files.old name.now ≡ Some bytes → (p : Stmts) → Takes bytes p → result ≡ 1 → TellsThrow (run_shows p).end (F.written faults.old) (F.written faults.new) (F.faults faults.old) (F.faults faults.new) }
+    ensures refuses { (bytes : List ℕ) → C.held files.old name.now ≡ Some bytes → ((p : Stmts) → Takes bytes p → ⊥) → (result ≡ 3) ⊎ ((result ≡ 6) ⊎ (result ≡ 70)) }
     ensures never { result ≢ 2 }
     ensures silent { (result ≡ 3) ⊎ (result ≡ 6) → O.written out.new ≡ O.written out.old }
     ensures unread { result ≡ 6 → Rose (C.faults files.old name.now) (C.faults files.new name.now) }
@@ -147,19 +224,41 @@ fn run_file<C: Cabinet, O: Sink, F: Sink>(
     ensures says { Explains result name.now (F.written faults.old) (F.written faults.new) (F.faults faults.old) (F.faults faults.new) }
 {
     match read_whole(alloc, files, name, MOST_READ) {
-        Ok(text) => run_text(alloc, name, &text, out, faults),
+        Ok(text) => do_text(alloc, mode, name, &text, out, faults),
         Err(PortFault::Failed) => tell(alloc, faults, Fault::CannotRead(name)),
         Err(PortFault::NoMemory) => tell(alloc, faults, Fault::OutOfMemory),
     }
 }
 
-/// Does all that the program does, and answers its status. `words` are the words after the program's name: the mode
-/// `run` and a file whose name doesn't begin with `-`. The program of the file is lowered, printed, parsed again and
-/// run for at most 20,000,000 steps; what it prints goes to `out`, and a line that tells a fault to `faults`.
+/// The text that is emitted for the program that a user's text is (ECMA-262, 16.1, restricted): the prelude, and behind it
+/// the program's own statements, printed as their tokens. The user's text has at most 1,048,576 bytes.
 ///
-/// 0: the run ended. 1: it threw, and the line shows the value. 2: the words are no command line. 3: the text is no
-/// program that is taken. 4: the run left the profile. 5: it was still going. 6: the file couldn't be read. 7: the
-/// output couldn't be written. 70: memory was wanting, which may come in place of any other answer.
+/// # Errors
+///
+/// `Refused` exactly where the text is no program of forms that run, with the number and the place of the first reason: of
+/// its bytes, its tokens, the grammar, the static rules and the forms, in this order; `NoMemory` where memory runs out.
+pub fn lower_text(alloc: Global, text: &[u8]) -> Result<Vec<u8>, TextFault>
+    // What is answered is the emitted text of the text's program: it parses to q, the two runs match, and q has the
+    // program's own statements.
+    ensures lowered { IfOk result (λ made. IsLowered text.now made.items) }
+
+    // A refusal has its cause at its place, and no program is refused.
+    ensures refused { IfErr result (Says text.now) }
+    ensures takes { (p : Stmts) → Takes text.now p → IfErr result (λ e. e ≡ fault.NoMemory) }
+{
+    let program = read_source(alloc, text)?;
+    Ok(emitted(alloc, &program)?)
+}
+
+/// Does all that the program does, and answers its status. `words` are the words after the program's name: the mode
+/// `lower` or `run`, and a file whose name doesn't begin with `-`. The program of the file is lowered and printed. `lower`
+/// writes that text to `out`; `run` parses it again and runs it for at most 20,000,000 steps, and what it prints goes to
+/// `out`. A line that tells a fault goes to `faults`.
+///
+/// 0: the text was written, or the run ended. 1: it threw, and the line shows the value. 2: the words are no command line.
+/// 3: the text is no program of forms that run, and the line tells the first reason and its place. 4: the run left the
+/// profile. 5: it was still going. 6: the file couldn't be read. 7: the output couldn't be written. 70: memory was wanting,
+/// which may come in place of any other answer.
 pub fn actx<C: Cabinet, O: Sink, F: Sink>(
     alloc: Global,
     words: &[String],
@@ -168,32 +267,35 @@ pub fn actx<C: Cabinet, O: Sink, F: Sink>(
     faults: &mut F,
 ) -> u8
     // The words.
-    ensures usage { result ≡ 2 → is_command (map string_bytes words.now) ≡ false }
-    ensures wants_words { is_command (map string_bytes words.now) ≡ false → (result ≡ 2) ⊎ (result ≡ 70) }
+    ensures usage { result ≡ 2 → command_of (map string_bytes words.now) ≡ None }
+    ensures wants_words { command_of (map string_bytes words.now) ≡ None → (result ≡ 2) ⊎ (result ≡ 70) }
 
     // The file: a fault of reading is answered only where its count rose.
     ensures unread { result ≡ 6 → Rose (C.faults files.old (file_of (map string_bytes words.now))) (C.faults files.new (file_of (map string_bytes words.now))) }
 
     // The text, where the cabinet tells its bytes.
-    ensures refused { (bytes : List ℕ) → C.held files.old (file_of (map string_bytes words.now)) ≡ Some bytes → result ≡ 3 → (p : Stmts) → Accepts bytes p → ⊥ }
-    ensures refuses { (bytes : List ℕ) → C.held files.old (file_of (map string_bytes words.now)) ≡ Some bytes → is_command (map string_bytes words.now) ≡ true → ((p : Stmts) → Accepts bytes p → ⊥) → (result ≡ 3) ⊎ ((result ≡ 6) ⊎ (result ≡ 70)) }
+    ensures refused { (bytes : List ℕ) → C.held files.old (file_of (map string_bytes words.now)) ≡ Some bytes → result ≡ 3 → (p : Stmts) → Takes bytes p → ⊥ }
+    ensures refuses { (bytes : List ℕ) → C.held files.old (file_of (map string_bytes words.now)) ≡ Some bytes → (mode : Mode) → command_of (map string_bytes words.now) ≡ Some mode → ((p : Stmts) → Takes bytes p → ⊥) → (result ≡ 3) ⊎ ((result ≡ 6) ⊎ (result ≡ 70)) }
 
-    // The run: an accepted program has its run's end as status, and its lines are written.
-    ensures ran { (bytes : List ℕ) → C.held files.old (file_of (map string_bytes words.now)) ≡ Some bytes → is_command (map string_bytes words.now) ≡ true → (p : Stmts) → Accepts bytes p → Ran result p (O.written out.old) (O.written out.new) }
+    // A refusal: the line tells the number of its reason, and its place.
+    ensures refusal { (bytes : List ℕ) → C.held files.old (file_of (map string_bytes words.now)) ≡ Some bytes → result ≡ 3 → TellsRefusal (file_of (map string_bytes words.now)) bytes (F.written faults.old) (F.written faults.new) (F.faults faults.old) (F.faults faults.new) }
+
+    // The mode: a program has its mode's status, and the mode's output is written.
+    ensures did { (bytes : List ℕ) → C.held files.old (file_of (map string_bytes words.now)) ≡ Some bytes → (mode : Mode) → command_of (map string_bytes words.now) ≡ Some mode → (p : Stmts) → Takes bytes p → Did result mode p (O.written out.old) (O.written out.new) }
 
     // A throw: the line tells the value that the run threw.
-    ensures threw { (bytes : List ℕ) → C.held files.old (file_of (map string_bytes words.now)) ≡ Some bytes → is_command (map string_bytes words.now) ≡ true → (p : Stmts) → Accepts bytes p → result ≡ 1 → TellsThrow (run_shows p).end (F.written faults.old) (F.written faults.new) (F.faults faults.old) (F.faults faults.new) }
+    ensures threw { (bytes : List ℕ) → C.held files.old (file_of (map string_bytes words.now)) ≡ Some bytes → (p : Stmts) → Takes bytes p → result ≡ 1 → TellsThrow (run_shows p).end (F.written faults.old) (F.written faults.new) (F.faults faults.old) (F.faults faults.new) }
 
     // The headline: the emitted text parses to q, the two runs match, and q has the program's own statements.
-    ensures matches { (bytes : List ℕ) → C.held files.old (file_of (map string_bytes words.now)) ≡ Some bytes → (p : Stmts) → Accepts bytes p → Matches p (low p) }
+    ensures matches { (bytes : List ℕ) → C.held files.old (file_of (map string_bytes words.now)) ≡ Some bytes → (p : Stmts) → Takes bytes p → Matches p (low p) }
 
     // The outputs.
     ensures silent { (result ≡ 2) ⊎ ((result ≡ 3) ⊎ (result ≡ 6)) → O.written out.new ≡ O.written out.old }
     ensures unwritten { result ≡ 7 → Rose (O.faults out.old) (O.faults out.new) }
     ensures says { Explains result (file_of (map string_bytes words.now)) (F.written faults.old) (F.written faults.new) (F.faults faults.old) (F.faults faults.new) }
 {
-    match command(words) {
-        Some(file) => run_file(alloc, file, files, out, faults),
+    match mode_of(words) {
+        Some(mode) => do_file(alloc, mode, file_of(words), files, out, faults),
         None => tell(alloc, faults, Fault::BadWords),
     }
 }

@@ -1,11 +1,11 @@
 //! Names that the machine knows, as `length`.
 
 ghost use Rattle.std.specs.Prelude.{◌≡◌};
-ghost use Rattle.actx_parse.specs.Lexical.{same_text};
+ghost use Rattle.actx_top.specs.Texts.{same_text};
 ghost use Rattle.actx_top.specs.Properties.{is_proto, is_inherited};
 
+use actx_ast::name::Name;
 use actx_data::Units;
-use actx_parse::name::Name;
 
 /// Whether the name is this word of ASCII characters.
 pub fn is_word(name: &Name, word: &[u8]) -> bool

@@ -1,67 +1,26 @@
 //! Signs that end an expression, as the semicolon of `return a ;`.
 
-ghost use Rattle.std.specs.Prelude.{◌≡◌, IfOk, List, suc};
-ghost use Rattle.actx_parse.specs.Parser.{Frame as Held, close_brace, close_paren, comma, go_if, have, last, semicolon, suits};
-ghost use Rattle.actx_parse.specs.ParserView.{move_of, settled_of, stack_view};
-ghost use Rattle.actx_parse.specs.View.{expr_view, exprs_view, item_view, items_view, properties_view, property_view};
-ghost use Rattle.actx_parse.specs.Grammar.{count, with_item, with_last, with_property};
-ghost use Rattle.actx_parse.specs.Tree.{Built, Call};
+ghost use Rattle.std.specs.Prelude.{◌≡◌, ◌∷◌, IfOk, List, suc};
+ghost use Rattle.actx_ast.specs.Grammar.{count, with_last};
+ghost use Rattle.actx_ast.specs.ParserOperands.{after_computed, at_whole, close_brace, close_bracket, close_paren, colon, comma, end_consts, end_lets, semicolon, suits};
+ghost use Rattle.actx_ast.specs.ParserState.{Frame as Held, go_if, have, settled};
+ghost use Rattle.actx_ast.specs.Tree.{Built, Call};
+ghost use Rattle.actx_ast.specs.View.{consts_view, expr_view, exprs_view, lets_view, properties_view};
+ghost use Rattle.actx_parse.specs.ParserView.{frame_view, items_of_view, move_of, settled_of, stack_view};
 
-use super::lists::ended;
+use super::lists::{with_const, with_last, with_let, with_property};
+use super::moves::{body_in, ended, have, need_in};
+use super::nodes::{call, returning};
 use super::operand::close_form;
+use super::settle::settle;
 use super::stack::Stack;
-use super::state::{Frame, Mode, Operand, Step};
-use crate::name::Name;
-use crate::tree::{ConstItem, Expr, Form, Property, Stmt};
-use actx_data::{NoMemory, Units};
+use super::state::{Frame, ItemsOf, Mode, Operand, Step};
+use actx_ast::operators::{Form, FunctionKind};
+use actx_ast::token::{Sign, TokenKind};
+use actx_ast::tree::{ConstItem, Expr, ForInit, Key, LetItem, PropKey, Property, Stmt};
+use actx_data::NoMemory;
 use std::alloc::Global;
 use std::cmp::max;
-
-/// A list with one expression more.
-#[tactic(auto, using(crate::proofs::ParseStack::one_more))]
-fn with_last(list: Vec<Expr>, last: Expr) -> Result<Vec<Expr>, NoMemory>
-    ensures { IfOk result (λ es. exprs_view es.items ≡ with_last (exprs_view list.items) (expr_view last)) }
-{
-    let mut list = list;
-    list.push(last)?;
-    Ok(list)
-}
-
-fn item(name: Name, value: Expr) -> ConstItem
-    ensures { item_view result ≡ (name, expr_view value) }
-{
-    ConstItem { name, value }
-}
-
-/// A list with one item more.
-#[tactic(auto, using(crate::proofs::ParseStack::item_more))]
-fn with_item(list: Vec<ConstItem>, name: Name, value: Expr) -> Result<Vec<ConstItem>, NoMemory>
-    ensures { IfOk result (λ is. items_view is.items ≡ with_item (items_view list.items) name (expr_view value)) }
-{
-    let mut list = list;
-    list.push(item(name, value))?;
-    Ok(list)
-}
-
-fn property(key: Units, value: Expr) -> Property
-    ensures { property_view result ≡ (key, expr_view value) }
-{
-    Property { key, value }
-}
-
-/// A list with one property more.
-#[tactic(auto, using(crate::proofs::ParseStack::property_more))]
-pub fn with_property(
-    list: Vec<Property>,
-    key: Units,
-    value: Expr,
-) -> Result<Vec<Property>, NoMemory>
-    ensures { IfOk result (λ ps. properties_view ps.items ≡ with_property (properties_view list.items) key (expr_view value)) }
-{
-    let mut list = list;
-    list.push(property(key, value))?;
-    Ok(list)
-}
 
 /// A call whose last argument is this.
 fn call_with_last(
@@ -72,8 +31,7 @@ fn call_with_last(
 ) -> Result<Expr, NoMemory>
     ensures { IfOk result (λ e. expr_view e ≡ Call (expr_view callee) (with_last (exprs_view args.items) (expr_view last))) }
 {
-    let callee = Box::new(alloc, callee)?;
-    Ok(Expr::Call(callee, with_last(args, last)?))
+    call(alloc, callee, with_last(args, last)?)
 }
 
 /// A form whose last part is this, where it takes so many.
@@ -84,66 +42,122 @@ fn close_form_with(form: Form, parts: Vec<Expr>, last: Expr, reach: usize) -> Re
     Ok(close_form(form, parts, reach))
 }
 
-/// A closing parenthesis.
+/// A closing parenthesis behind an expression on a frame.
+fn close_paren_on(
+    alloc: Global,
+    frame: Frame,
+    held: Operand,
+    stack: &mut Stack,
+) -> Result<Step, NoMemory>
+    ensures { IfOk result (λ r. close_paren (settled (expr_view held.expr) held.reach (frame_view frame ∷ stack_view stack.old)) ≡ move_of r (stack_view stack.new)) }
+{
+    let _unchanged = stack.here(); // this read tells the proof that the stack stays
+    let Operand { expr, reach } = held;
+    match frame {
+        Frame::Paren => Ok(have(expr, reach)),
+        Frame::Call(callee, args, q) => {
+            let call = call_with_last(alloc, callee, args, expr)?;
+            Ok(have(call, max(q, reach)))
+        }
+        Frame::Form(form, parts, q) => Ok(close_form_with(form, parts, expr, max(q, reach))?),
+        Frame::If => Ok(body_in(Frame::YesOf(Operand { expr, reach }), stack)?),
+        Frame::While => Ok(body_in(Frame::WhileOf(Operand { expr, reach }), stack)?),
+        Frame::DoTest(stmt, q) => Ok(Step::Go(Mode::DoEnd(stmt, expr, max(q, reach)))),
+        Frame::ForUpdate(init, test, q) => {
+            let frame = Frame::ForBody(init, test, Some(expr), max(q, reach));
+            Ok(body_in(frame, stack)?)
+        }
+        Frame::ForOver(constant, name) => {
+            let frame = Frame::ForOfBody(constant, name, Operand { expr, reach });
+            Ok(body_in(frame, stack)?)
+        }
+        Frame::Switch => Ok(Step::Go(Mode::SwitchBrace(Operand { expr, reach }))),
+        other => {
+            drop(other);
+            Ok(Step::Refused)
+        }
+    }
+}
+
+/// A closing parenthesis behind an expression.
 pub fn close_paren(alloc: Global, held: Operand, stack: &mut Stack) -> Result<Step, NoMemory>
     ensures { IfOk result (λ r. close_paren (settled_of held stack.old) ≡ move_of r (stack_view stack.new)) }
 {
     match stack.pop() {
-        Some(Frame::Paren) => Ok(Step::Go(Mode::Have(held))),
-        Some(Frame::Call(callee, args, reach)) => {
-            let reach = max(reach, held.reach);
-            let expr = call_with_last(alloc, callee, args, held.expr)?;
-            Ok(Step::Go(Mode::Have(Operand { expr, reach })))
-        }
-        Some(Frame::Form(form, parts, reach)) => {
-            close_form_with(form, parts, held.expr, max(reach, held.reach))
-        }
-        Some(Frame::Test) => Ok(Step::Go(Mode::BranchOpen(held))),
-        _ => Ok(Step::Refused),
+        Some(frame) => close_paren_on(alloc, frame, held, stack),
+        None => Ok(Step::Refused),
     }
 }
 
-/// A comma: behind an argument, a property or an item of a `const`.
-pub fn comma(held: Operand, stack: &mut Stack) -> Result<Step, NoMemory>
-    ensures { IfOk result (λ r. comma (settled_of held stack.old) ≡ move_of r (stack_view stack.new)) }
+/// Behind a key in brackets.
+fn after_computed(
+    properties: Vec<Property>,
+    kind: Option<FunctionKind>,
+    key: Box<Expr>,
+    reach: usize,
+) -> Step
+    ensures { (s : List Held) → after_computed (properties_view properties.items) kind (expr_view key.value) reach s ≡ move_of result s }
 {
+    let key = PropKey::Computed(key);
+    match kind {
+        None => Step::Go(Mode::KeyBehind(properties, key, reach)),
+        Some(kind) => Step::Go(Mode::MethodOpen(properties, kind, key, reach)),
+    }
+}
+
+/// A closing bracket behind an expression on a frame.
+fn close_bracket_on(
+    alloc: Global,
+    frame: Frame,
+    held: Operand,
+    stack: &mut Stack,
+) -> Result<Step, NoMemory>
+    ensures { IfOk result (λ r. close_bracket (settled (expr_view held.expr) held.reach (frame_view frame ∷ stack_view stack.old)) ≡ move_of r (stack_view stack.new)) }
+{
+    let _unchanged = stack.here(); // this read tells the proof that the stack stays
     let Operand { expr, reach } = held;
+    match frame {
+        Frame::Index(base) => {
+            let reach = max(base.reach, reach);
+            let key = Key::Index(Box::new(alloc, expr)?);
+            Ok(Step::Go(Mode::HaveMember(base.expr, key, reach)))
+        }
+        Frame::Computed(properties, kind, q) => {
+            let key = Box::new(alloc, expr)?;
+            Ok(after_computed(properties, kind, key, max(q, reach)))
+        }
+        other => {
+            drop(other);
+            Ok(Step::Refused)
+        }
+    }
+}
+
+/// A closing bracket behind an expression.
+pub fn close_bracket(alloc: Global, held: Operand, stack: &mut Stack) -> Result<Step, NoMemory>
+    ensures { IfOk result (λ r. close_bracket (settled_of held stack.old) ≡ move_of r (stack_view stack.new)) }
+{
     match stack.pop() {
-        Some(Frame::Call(callee, args, r)) => {
-            let args = with_last(args, expr)?;
-            stack.push(Frame::Call(callee, args, max(r, reach)))?;
-            Ok(Step::Go(Mode::Need))
-        }
-        Some(Frame::Form(form, parts, r)) => {
-            let parts = with_last(parts, expr)?;
-            stack.push(Frame::Form(form, parts, max(r, reach)))?;
-            Ok(Step::Go(Mode::Need))
-        }
-        Some(Frame::Object(properties, key, r)) => {
+        Some(frame) => close_bracket_on(alloc, frame, held, stack),
+        None => Ok(Step::Refused),
+    }
+}
+
+/// A closing brace behind an expression: a literal ends on a frame.
+fn close_brace_on(frame: Frame, held: Operand, stack: &mut Stack) -> Result<Step, NoMemory>
+    ensures { IfOk result (λ r. close_brace (settled (expr_view held.expr) held.reach (frame_view frame ∷ stack_view stack.old)) ≡ move_of r (stack_view stack.new)) }
+{
+    let _unchanged = stack.here(); // this read tells the proof that the stack stays
+    let Operand { expr, reach } = held;
+    match frame {
+        Frame::Property(properties, key, q) => {
             let properties = with_property(properties, key, expr)?;
-            Ok(Step::Go(Mode::KeyNext(properties, max(r, reach))))
+            Ok(have(Expr::Object(properties), max(q, reach)))
         }
-        Some(Frame::Item(items, name, r)) => {
-            let items = with_item(items, name, expr)?;
-            Ok(Step::Go(Mode::ItemName(items, max(r, reach))))
+        other => {
+            drop(other);
+            Ok(Step::Refused)
         }
-        _ => Ok(Step::Refused),
-    }
-}
-
-/// A semicolon.
-pub fn semicolon(held: Operand, stack: &mut Stack) -> Result<Step, NoMemory>
-    ensures { IfOk result (λ r. semicolon (settled_of held stack.old) ≡ move_of r (stack_view stack.new)) }
-{
-    let Operand { expr, reach } = held;
-    match stack.pop() {
-        Some(Frame::Value) => ended(Stmt::Value(expr), reach, stack),
-        Some(Frame::Item(items, name, r)) => {
-            let items = with_item(items, name, expr)?;
-            ended(Stmt::Const(items), max(r, reach), stack)
-        }
-        Some(Frame::Return) => ended(Stmt::Return(Some(expr)), reach, stack),
-        _ => Ok(Step::Refused),
     }
 }
 
@@ -151,13 +165,201 @@ pub fn semicolon(held: Operand, stack: &mut Stack) -> Result<Step, NoMemory>
 pub fn close_brace(held: Operand, stack: &mut Stack) -> Result<Step, NoMemory>
     ensures { IfOk result (λ r. close_brace (settled_of held stack.old) ≡ move_of r (stack_view stack.new)) }
 {
-    let Operand { expr, reach } = held;
     match stack.pop() {
-        Some(Frame::Object(properties, key, r)) => {
-            let reach = max(r, reach);
-            let expr = Expr::Object(with_property(properties, key, expr)?);
-            Ok(Step::Go(Mode::Whole(Operand { expr, reach })))
+        Some(frame) => close_brace_on(frame, held, stack),
+        None => Ok(Step::Refused),
+    }
+}
+
+/// A comma: behind an argument, a property or an item on a frame.
+fn comma_on(frame: Frame, held: Operand, stack: &mut Stack) -> Result<Step, NoMemory>
+    ensures { IfOk result (λ r. comma (settled (expr_view held.expr) held.reach (frame_view frame ∷ stack_view stack.old)) ≡ move_of r (stack_view stack.new)) }
+{
+    let _unchanged = stack.here(); // this read tells the proof that the stack stays
+    let Operand { expr, reach } = held;
+    match frame {
+        Frame::Call(callee, args, q) => {
+            let args = with_last(args, expr)?;
+            Ok(need_in(Frame::Call(callee, args, max(q, reach)), stack)?)
         }
-        _ => Ok(Step::Refused),
+        Frame::Form(form, parts, q) => {
+            let parts = with_last(parts, expr)?;
+            Ok(need_in(Frame::Form(form, parts, max(q, reach)), stack)?)
+        }
+        Frame::Property(properties, key, q) => {
+            let properties = with_property(properties, key, expr)?;
+            Ok(Step::Go(Mode::KeyNext(properties, max(q, reach))))
+        }
+        Frame::Let(of, items, name, q) => {
+            let items = with_let(items, name, Some(expr))?;
+            Ok(Step::Go(Mode::LetName(of, items, max(q, reach))))
+        }
+        Frame::Const(of, items, name, q) => {
+            let items = with_const(items, name, expr)?;
+            Ok(Step::Go(Mode::ConstName(of, items, max(q, reach))))
+        }
+        other => {
+            drop(other);
+            Ok(Step::Refused)
+        }
+    }
+}
+
+/// A comma: behind an argument, a property or an item.
+pub fn comma(held: Operand, stack: &mut Stack) -> Result<Step, NoMemory>
+    ensures { IfOk result (λ r. comma (settled_of held stack.old) ≡ move_of r (stack_view stack.new)) }
+{
+    match stack.pop() {
+        Some(frame) => comma_on(frame, held, stack),
+        None => Ok(Step::Refused),
+    }
+}
+
+/// The items of a `let` end.
+pub fn end_lets(of: ItemsOf, items: Vec<LetItem>, reach: usize) -> Step
+    ensures { (s : List Held) → end_lets (items_of_view of) (lets_view items.items) reach s ≡ move_of result s }
+{
+    match of {
+        ItemsOf::Statement => ended(Stmt::Let(items), reach),
+        ItemsOf::For => Step::Go(Mode::ForTest(ForInit::Let(items), reach)),
+    }
+}
+
+/// The items of a `const` end.
+pub fn end_consts(of: ItemsOf, items: Vec<ConstItem>, reach: usize) -> Step
+    ensures { (s : List Held) → end_consts (items_of_view of) (consts_view items.items) reach s ≡ move_of result s }
+{
+    match of {
+        ItemsOf::Statement => ended(Stmt::Const(items), reach),
+        ItemsOf::For => Step::Go(Mode::ForTest(ForInit::Const(items), reach)),
+    }
+}
+
+/// A semicolon behind an expression on a frame.
+fn semicolon_on(frame: Frame, held: Operand, stack: &mut Stack) -> Result<Step, NoMemory>
+    ensures { IfOk result (λ r. semicolon (settled (expr_view held.expr) held.reach (frame_view frame ∷ stack_view stack.old)) ≡ move_of r (stack_view stack.new)) }
+{
+    let _unchanged = stack.here(); // this read tells the proof that the stack stays
+    let Operand { expr, reach } = held;
+    match frame {
+        Frame::Value => Ok(ended(Stmt::Value(expr), reach)),
+        Frame::Let(of, items, name, q) => {
+            let items = with_let(items, name, Some(expr))?;
+            Ok(end_lets(of, items, max(q, reach)))
+        }
+        Frame::Const(of, items, name, q) => {
+            let items = with_const(items, name, expr)?;
+            Ok(end_consts(of, items, max(q, reach)))
+        }
+        Frame::Return => Ok(ended(returning(expr), reach)),
+        Frame::Throw => Ok(ended(Stmt::Throw(expr), reach)),
+        Frame::ForInit => Ok(Step::Go(Mode::ForTest(ForInit::Value(expr), reach))),
+        Frame::ForTest(init, q) => {
+            let reach = max(q, reach);
+            Ok(Step::Go(Mode::ForUpdate(init, Some(expr), reach)))
+        }
+        other => {
+            drop(other);
+            Ok(Step::Refused)
+        }
+    }
+}
+
+/// A semicolon behind an expression.
+pub fn semicolon(held: Operand, stack: &mut Stack) -> Result<Step, NoMemory>
+    ensures { IfOk result (λ r. semicolon (settled_of held stack.old) ≡ move_of r (stack_view stack.new)) }
+{
+    match stack.pop() {
+        Some(frame) => semicolon_on(frame, held, stack),
+        None => Ok(Step::Refused),
+    }
+}
+
+/// A colon behind an expression on a frame.
+fn colon_on(frame: Frame, held: Operand, stack: &mut Stack) -> Result<Step, NoMemory>
+    ensures { IfOk result (λ r. colon (settled (expr_view held.expr) held.reach (frame_view frame ∷ stack_view stack.old)) ≡ move_of r (stack_view stack.new)) }
+{
+    let _unchanged = stack.here(); // this read tells the proof that the stack stays
+    let Operand { expr, reach } = held;
+    match frame {
+        Frame::Choice(test) => {
+            let reach = max(test.reach, reach);
+            let frame = Frame::Other(test.expr, Operand { expr, reach });
+            Ok(need_in(frame, stack)?)
+        }
+        other => {
+            drop(other);
+            Ok(Step::Refused)
+        }
+    }
+}
+
+/// A colon behind an expression.
+pub fn colon(held: Operand, stack: &mut Stack) -> Result<Step, NoMemory>
+    ensures { IfOk result (λ r. colon (settled_of held stack.old) ≡ move_of r (stack_view stack.new)) }
+{
+    match stack.pop() {
+        Some(frame) => colon_on(frame, held, stack),
+        None => Ok(Step::Refused),
+    }
+}
+
+/// A sign behind any expression.
+fn whole_sign(
+    alloc: Global,
+    operand: Operand,
+    sign: Sign,
+    stack: &mut Stack,
+) -> Result<Step, NoMemory>
+    ensures { IfOk result (λ r. at_whole (expr_view operand.expr) operand.reach (stack_view stack.old) (TokenKind.Sign sign) ≡ move_of r (stack_view stack.new)) }
+{
+    match sign {
+        Sign::CloseParen => {
+            let held = settle(alloc, 0, operand, stack)?;
+            close_paren(alloc, held, stack)
+        }
+        Sign::CloseBracket => {
+            let held = settle(alloc, 0, operand, stack)?;
+            close_bracket(alloc, held, stack)
+        }
+        Sign::CloseBrace => {
+            let held = settle(alloc, 0, operand, stack)?;
+            close_brace(held, stack)
+        }
+        Sign::Comma => {
+            let held = settle(alloc, 0, operand, stack)?;
+            comma(held, stack)
+        }
+        Sign::Semicolon => {
+            let held = settle(alloc, 0, operand, stack)?;
+            semicolon(held, stack)
+        }
+        Sign::Colon => {
+            let held = settle(alloc, 0, operand, stack)?;
+            colon(held, stack)
+        }
+        _ => {
+            let _unchanged = stack.here(); // this read tells the proof that the stack stays
+            Ok(Step::Refused)
+        }
+    }
+}
+
+/// A token behind an expression that no operator goes on.
+pub fn at_whole(
+    alloc: Global,
+    operand: Operand,
+    token: &TokenKind,
+    stack: &mut Stack,
+) -> Result<Step, NoMemory>
+    ensures { IfOk result (λ r. at_whole (expr_view operand.expr) operand.reach (stack_view stack.old) token.now ≡ move_of r (stack_view stack.new)) }
+{
+    let _unchanged = stack.here(); // this read tells the proof that the stack stays
+    match token {
+        TokenKind::Sign(sign) => whole_sign(alloc, operand, *sign, stack),
+        TokenKind::Name(_) => Ok(Step::Refused),
+        TokenKind::Keyword(_) => Ok(Step::Refused),
+        TokenKind::Number(_) => Ok(Step::Refused),
+        TokenKind::Text(_) => Ok(Step::Refused),
     }
 }

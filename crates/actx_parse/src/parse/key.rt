@@ -1,75 +1,92 @@
-//! Keys of object literals, which are words or texts, as `a` and `"a b"`.
+//! Words as keys and names, as `if` in `{ if : 1 }` and `a.if`, and copies of tokens.
 
-ghost use Rattle.std.specs.Prelude.{◌≡◌, ◌<◌, All, IfOk};
-ghost use Rattle.actx_parse.specs.Lexical.{keyword_text};
+ghost use Rattle.std.specs.Prelude.{◌≡◌, ◌++◌, IfOk, OnOk};
+ghost use Rattle.actx_ast.specs.Names.{word_of};
+ghost use Rattle.actx_ast.specs.Words.{keyword_text, units_of, word_units};
 
-use crate::name::Name;
-use crate::token::Keyword;
-use crate::words;
+use actx_ast::name::Name;
+use actx_ast::token::{Keyword, TokenKind};
+use actx_ast::words;
 use actx_data::{NoMemory, Twin, Units};
 use std::alloc::Global;
-use std::marker::Model;
 
-/// A key that is a name, so that it might be a whole property; its units are its characters.
-#[derive(Drop)]
-pub struct KeyName {
-    name: Name,
-    units: Units,
+/// One more character, as UTF-16 code units (ECMA-262, 11.1.1).
+fn push_units(list: &mut Vec<u16>, c: char) -> Result<(), NoMemory>
+    ensures { OnOk result (list.new.items ≡ list.old.items ++ units_of c) }
+{
+    let code = c as u32;
+    if code < 0x10000 {
+        list.push(code as u16)?;
+    } else {
+        let rest = code - 0x10000;
+        list.push((0xD800 + rest / 0x400) as u16)?;
+        list.push((0xDC00 + rest % 0x400) as u16)?;
+    }
+    Ok(())
 }
 
-impl Model for KeyName {
-    ghost use Rattle.std.specs.Prelude.{◌≡◌, List, ℕ};
-
-    ghost Value = { List ℕ };
-
-    ghost view = { λ k. k.name };
-
-    ghost invariant = { λ k. k.name ≡ k.units };
-}
-
-/// The units of a name whose characters are units.
-fn units_of(alloc: Global, name: &Name) -> Result<Units, NoMemory>
-    requires { All (λ c. c < 65536) name.now }
-    ensures { IfOk result (λ u. u ≡ name.now) }
+/// The units of a name.
+pub fn name_units(alloc: Global, name: &Name) -> Result<Units, NoMemory>
+    ensures { IfOk result (λ u. u ≡ word_units name.now) }
 {
     let mut list = Vec::new(alloc);
     for c in name.as_slice() {
-        list.push(*c as u32 as u16)?;
+        push_units(&mut list, *c)?;
     }
     Ok(Units::from_vec(list))
 }
 
-impl KeyName {
-    pub fn new(alloc: Global, name: &Name) -> Result<KeyName, NoMemory>
-        requires { All (λ c. c < 65536) name.now }
-        ensures { IfOk result (λ k. k ≡ name.now) }
-    {
-        let units = units_of(alloc, name)?;
-        let name = name.copy(alloc)?;
-        Ok(KeyName { name, units })
-    }
-
-    pub fn name(&self) -> &Name
-        ensures { result.now ≡ self.now }
-    {
-        &self.name
-    }
-
-    /// The name and its units.
-    pub fn into_units(self) -> Units
-        ensures { result ≡ self }
-    {
-        self.units
-    }
+/// The units of a reserved word.
+pub fn keyword_units(alloc: Global, keyword: Keyword) -> Result<Units, NoMemory>
+    ensures { IfOk result (λ u. u ≡ word_units (keyword_text keyword)) }
+{
+    let list = keyword_list(alloc, keyword)?;
+    Ok(Units::from_vec(list))
 }
 
-/// The key that a reserved word is.
-pub fn keyword_key(alloc: Global, keyword: Keyword) -> Result<Units, NoMemory>
-    ensures { IfOk result (λ u. u ≡ keyword_text keyword) }
+fn keyword_list(alloc: Global, keyword: Keyword) -> Result<Vec<u16>, NoMemory>
+    ensures { IfOk result (λ v. v.items ≡ keyword_text keyword) }
 {
     let mut list = Vec::new(alloc);
     for byte in words::keyword_text(keyword).as_bytes() {
         list.push(u16::from(*byte))?;
     }
-    Ok(Units::from_vec(list))
+    Ok(list)
+}
+
+/// The name that a reserved word is behind a dot.
+fn keyword_name(alloc: Global, keyword: Keyword) -> Result<Name, NoMemory>
+    ensures { IfOk result (λ x. x ≡ keyword_text keyword) }
+{
+    let mut chars = Vec::new(alloc);
+    for byte in words::keyword_text(keyword).as_bytes() {
+        chars.push(char::from(*byte))?;
+    }
+    Ok(Name::from_vec(chars))
+}
+
+/// The name that a token is behind a dot.
+pub fn word_of(alloc: Global, token: &TokenKind) -> Result<Option<Name>, NoMemory>
+    ensures { IfOk result (λ x. x ≡ word_of token.now) }
+{
+    match token {
+        TokenKind::Name(name) => Ok(Some(name.copy(alloc)?)),
+        TokenKind::Keyword(keyword) => Ok(Some(keyword_name(alloc, *keyword)?)),
+        TokenKind::Number(_) => Ok(None),
+        TokenKind::Text(_) => Ok(None),
+        TokenKind::Sign(_) => Ok(None),
+    }
+}
+
+/// A token once more.
+pub fn copy_token(alloc: Global, token: &TokenKind) -> Result<TokenKind, NoMemory>
+    ensures { IfOk result (λ t. t ≡ token.now) }
+{
+    match token {
+        TokenKind::Name(name) => Ok(TokenKind::Name(name.copy(alloc)?)),
+        TokenKind::Keyword(keyword) => Ok(TokenKind::Keyword(*keyword)),
+        TokenKind::Number(n) => Ok(TokenKind::Number(*n)),
+        TokenKind::Text(units) => Ok(TokenKind::Text(units.copy(alloc)?)),
+        TokenKind::Sign(sign) => Ok(TokenKind::Sign(*sign)),
+    }
 }

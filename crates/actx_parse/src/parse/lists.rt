@@ -1,22 +1,92 @@
-//! Statements that end, and the lists that they stand in, as the body of a function.
+//! Lists that grow at their end, as the arguments of a call.
 
-ghost use Rattle.std.specs.Prelude.{◌≡◌, IfOk, List};
-ghost use Rattle.actx_parse.specs.Parser.{Frame as Held, body, close_list, end_list, ended, last, with_stmt};
-ghost use Rattle.actx_parse.specs.ParserView.{move_of, owner_view, stack_view};
-ghost use Rattle.actx_parse.specs.View.{expr_view, stmt_view, stmts_view};
-ghost use Rattle.actx_parse.specs.Tree.{Function as Functional};
+ghost use Rattle.std.specs.Prelude.{◌≡◌, IfOk};
+ghost use Rattle.actx_ast.specs.Grammar.{count, with_last, with_let, with_const, with_property};
+ghost use Rattle.actx_ast.specs.Parser.{with_stmt, with_clause};
+ghost use Rattle.actx_ast.specs.View.{expr_view, exprs_view, lets_view, let_view, consts_view, const_view, properties_view, property_view, prop_key_view, stmt_view, stmts_view, clauses_view, clause_view};
+ghost use Rattle.actx_parse.specs.ParserView.{maybe_expr_view};
 
-use super::stack::Stack;
-use super::state::{Frame, ListOwner, Mode, Operand, Step};
-use crate::name::Name;
-use crate::tree::{Expr, Function, FunctionKind, Stmt};
+use actx_ast::name::Name;
+use actx_ast::tree::{Clause, ConstItem, Expr, LetItem, PropKey, Property, Stmt};
 use actx_data::NoMemory;
-use std::alloc::Global;
-use std::cmp::max;
+
+/// How many expressions a list has.
+#[tactic(auto, using(crate::proofs::ParseStack::how_many))]
+pub fn count(list: &Vec<Expr>) -> usize
+    ensures { result ≡ count (exprs_view list.now.items) }
+{
+    list.len()
+}
+
+/// A list with one expression more.
+#[tactic(auto, using(crate::proofs::ParseStack::one_more))]
+pub fn with_last(list: Vec<Expr>, last: Expr) -> Result<Vec<Expr>, NoMemory>
+    ensures { IfOk result (λ es. exprs_view es.items ≡ with_last (exprs_view list.items) (expr_view last)) }
+{
+    let mut list = list;
+    list.push(last)?;
+    Ok(list)
+}
+
+fn let_item(name: Name, value: Option<Expr>) -> LetItem
+    ensures { let_view result ≡ (name, maybe_expr_view value) }
+{
+    LetItem { name, value }
+}
+
+/// A list with one item more.
+#[tactic(auto, using(crate::proofs::ParseStack::let_more))]
+pub fn with_let(
+    list: Vec<LetItem>,
+    name: Name,
+    value: Option<Expr>,
+) -> Result<Vec<LetItem>, NoMemory>
+    ensures { IfOk result (λ is. lets_view is.items ≡ with_let (lets_view list.items) name (maybe_expr_view value)) }
+{
+    let mut list = list;
+    list.push(let_item(name, value))?;
+    Ok(list)
+}
+
+fn const_item(name: Name, value: Expr) -> ConstItem
+    ensures { const_view result ≡ (name, expr_view value) }
+{
+    ConstItem { name, value }
+}
+
+/// A list with one item more.
+#[tactic(auto, using(crate::proofs::ParseStack::const_more))]
+pub fn with_const(list: Vec<ConstItem>, name: Name, value: Expr) -> Result<Vec<ConstItem>, NoMemory>
+    ensures { IfOk result (λ is. consts_view is.items ≡ with_const (consts_view list.items) name (expr_view value)) }
+{
+    let mut list = list;
+    list.push(const_item(name, value))?;
+    Ok(list)
+}
+
+fn property(key: PropKey, value: Expr) -> Property
+    ensures { property_view result ≡ (prop_key_view key, expr_view value) }
+{
+    Property { key, value }
+}
+
+/// A list with one property more.
+#[tactic(auto, using(crate::proofs::ParseStack::property_more))]
+pub fn with_property(
+    list: Vec<Property>,
+    key: PropKey,
+    value: Expr,
+) -> Result<Vec<Property>, NoMemory>
+    ensures { IfOk result (λ ps. properties_view ps.items ≡ with_property (properties_view list.items) (prop_key_view key) (expr_view value)) }
+{
+    let mut list = list;
+    list.push(property(key, value))?;
+    Ok(list)
+}
 
 /// A list with one statement more.
 #[tactic(auto, using(crate::proofs::ParseStack::stmt_more))]
-fn with_stmt(list: Vec<Stmt>, last: Stmt) -> Result<Vec<Stmt>, NoMemory>
+pub fn with_stmt(list: Vec<Stmt>, last: Stmt) -> Result<Vec<Stmt>, NoMemory>
     ensures { IfOk result (λ ss. stmts_view ss.items ≡ with_stmt (stmts_view list.items) (stmt_view last)) }
 {
     let mut list = list;
@@ -24,82 +94,22 @@ fn with_stmt(list: Vec<Stmt>, last: Stmt) -> Result<Vec<Stmt>, NoMemory>
     Ok(list)
 }
 
-/// A statement stands in the list that is open.
-pub fn ended(stmt: Stmt, reach: usize, stack: &mut Stack) -> Result<Step, NoMemory>
-    ensures { IfOk result (λ r. ended (stmt_view stmt) reach (stack_view stack.old) ≡ move_of r (stack_view stack.new)) }
+fn clause(number: Option<u64>, body: Vec<Stmt>) -> Clause
+    ensures { clause_view result ≡ (number, stmts_view body.items) }
 {
-    match stack.pop() {
-        Some(Frame::List(owner, stmts, held)) => {
-            let stmts = with_stmt(stmts, stmt)?;
-            stack.push(Frame::List(owner, stmts, max(held, reach)))?;
-            Ok(Step::Go(Mode::Start))
-        }
-        _ => Ok(Step::Refused),
-    }
+    Clause { number, body }
 }
 
-/// A function with this body.
-pub fn function(
-    alloc: Global,
-    kind: FunctionKind,
-    params: Vec<Name>,
+/// A list with one clause more.
+#[tactic(auto, using(crate::proofs::ParseStack::clause_more))]
+pub fn with_clause(
+    list: Vec<Clause>,
+    number: Option<u64>,
     body: Vec<Stmt>,
-) -> Result<Expr, NoMemory>
-    ensures { IfOk result (λ e. expr_view e ≡ Functional kind params.items (stmts_view body.items)) }
+) -> Result<Vec<Clause>, NoMemory>
+    ensures { IfOk result (λ cs. clauses_view cs.items ≡ with_clause (clauses_view list.items) number (stmts_view body.items)) }
 {
-    let function = Function { kind, params, body };
-    Ok(Expr::Function(Box::new(alloc, function)?))
-}
-
-/// The body of a function ends.
-fn end_body(
-    alloc: Global,
-    kind: FunctionKind,
-    params: Vec<Name>,
-    stmts: Vec<Stmt>,
-    reach: usize,
-) -> Result<Step, NoMemory>
-    ensures { IfOk result (λ r. (s : List Held) → end_list (body kind params.items) (stmts_view stmts.items) reach s ≡ move_of r s) }
-{
-    let expr = function(alloc, kind, params, stmts)?;
-    Ok(Step::Go(Mode::Whole(Operand { expr, reach })))
-}
-
-/// A list of statements ends.
-fn end_list(
-    alloc: Global,
-    owner: ListOwner,
-    stmts: Vec<Stmt>,
-    reach: usize,
-    stack: &mut Stack,
-) -> Result<Step, NoMemory>
-    ensures { IfOk result (λ r. end_list (owner_view owner) (stmts_view stmts.items) reach (stack_view stack.old) ≡ move_of r (stack_view stack.new)) }
-{
-    match owner {
-        ListOwner::Program => {
-            let _unchanged = stack.leaf_reach(); // this read tells the proof that the stack stays
-            Ok(Step::Refused)
-        }
-        ListOwner::Body(kind, params) => {
-            let _unchanged = stack.leaf_reach(); // this read tells the proof that the stack stays
-            end_body(alloc, kind, params, stmts, reach)
-        }
-        ListOwner::Block => ended(Stmt::Block(stmts), reach, stack),
-        ListOwner::Branch(test) => ended(Stmt::If { test, yes: stmts }, reach, stack),
-        ListOwner::Tried => {
-            let _unchanged = stack.leaf_reach(); // this read tells the proof that the stack stays
-            Ok(Step::Go(Mode::FinallyNext(stmts, reach)))
-        }
-        ListOwner::Last(block) => ended(Stmt::Try { block, last: stmts }, reach, stack),
-    }
-}
-
-/// A closing brace where a statement may begin.
-pub fn close_list(alloc: Global, stack: &mut Stack) -> Result<Step, NoMemory>
-    ensures { IfOk result (λ r. close_list (stack_view stack.old) ≡ move_of r (stack_view stack.new)) }
-{
-    match stack.pop() {
-        Some(Frame::List(owner, stmts, reach)) => end_list(alloc, owner, stmts, reach, stack),
-        _ => Ok(Step::Refused),
-    }
+    let mut list = list;
+    list.push(clause(number, body))?;
+    Ok(list)
 }

@@ -1,103 +1,169 @@
 //! Where an operand is wanted, as behind `const a =`.
 
 ghost use Rattle.std.specs.Prelude.{◌≡◌, ◌∷◌, IfOk, List};
-ghost use Rattle.actx_parse.specs.Parser.{Frame as Held, at_need, begin_operand, close_arguments, form_of, form_or_name, go, go_if, have, key_operand, operand, suits};
-ghost use Rattle.actx_parse.specs.ParserView.{frame_view, mode_view, move_of, stack_view};
-ghost use Rattle.actx_parse.specs.View.{expr_view, exprs_view};
-ghost use Rattle.actx_parse.specs.Grammar.{count};
-ghost use Rattle.actx_parse.specs.Tree.{Built};
+ghost use Rattle.actx_ast.specs.Grammar.{count};
+ghost use Rattle.actx_ast.specs.ParserOperands.{at_bump_name, at_need, begin_operand, close_arguments, key_operand, operand, prefix, suits};
+ghost use Rattle.actx_ast.specs.ParserState.{Frame as Held, go_if, have};
+ghost use Rattle.actx_ast.specs.Tree.{Built};
+ghost use Rattle.actx_ast.specs.View.{expr_view, exprs_view};
+ghost use Rattle.actx_parse.specs.ParserView.{bounds, frame_view, move_of, stack_view};
 
-use super::forms::form_of;
-use super::limits::{fits, has_room, suits, takes_whole};
+use super::forms::{first_word, suits};
+use super::limits::{Rules, begins_statement, fits, fits_below, has_room, is_source, takes_whole};
+use super::lists::count;
+use super::moves::{go_if, have, need_if};
+use super::nodes::call;
 use super::stack::Stack;
-use super::state::{Frame, Mode, Operand, Step};
-use super::word::is_binding;
-use crate::name::Name;
-use crate::side::Side;
-use crate::token::{Keyword, Sign, TokenKind};
-use crate::tree::{Expr, Form};
-use actx_data::{NoMemory, Twin};
+use super::state::{Frame, Mode, Operand, Role, Step};
+use super::word::{is_binding, is_built_in};
+use actx_ast::name::Name;
+use actx_ast::operators::{Form, UnaryOp};
+use actx_ast::token::{Keyword, Sign, TokenKind};
+use actx_ast::tree::Expr;
+use actx_data::{NoMemory, Twin, Units};
 use std::alloc::Global;
 
-/// What is behind an operand without parts.
-fn have(expr: Expr, reach: usize) -> Step
-    ensures { (s : List Held) → move_of result s ≡ go (have (expr_view expr) reach) s }
+/// An operator before its operand.
+fn prefix(rules: Rules, op: UnaryOp, stack: &mut Stack) -> Result<Step, NoMemory>
+    ensures { IfOk result (λ r. prefix (bounds rules) op (stack_view stack.old) ≡ move_of r (stack_view stack.new)) }
 {
-    Step::Go(Mode::Have(Operand { expr, reach }))
+    need_if(fits_below(rules, stack), Frame::Unary(op), stack)
 }
 
-/// Goes on where the test is true.
-pub fn go_if(test: bool, mode: Mode) -> Step
-    ensures { (s : List Held) → move_of result s ≡ go_if test (mode_view mode) s }
+/// A number.
+fn number_operand(rules: Rules, n: u64, stack: &mut Stack) -> Step
+    ensures { operand (bounds rules) rules.side (stack_view stack.old) (TokenKind.Number n) ≡ move_of result (stack_view stack.new) }
 {
-    if test { Step::Go(mode) } else { Step::Refused }
+    let reach = stack.here();
+    have(Expr::Num(n), reach)
+}
+
+/// A text.
+fn text_operand(
+    alloc: Global,
+    rules: Rules,
+    units: &Units,
+    stack: &mut Stack,
+) -> Result<Step, NoMemory>
+    ensures { IfOk result (λ r. operand (bounds rules) rules.side (stack_view stack.old) (TokenKind.Text units.now) ≡ move_of r (stack_view stack.new)) }
+{
+    let reach = stack.here();
+    let units = units.copy(alloc)?;
+    Ok(have(Expr::Text(units), reach))
 }
 
 /// A name, which is a reference or begins a form.
-fn form_or_name(alloc: Global, side: Side, name: &Name, stack: &mut Stack) -> Result<Step, NoMemory>
-    ensures { IfOk result (λ r. form_or_name side (form_of side name.now) name.now (stack_view stack.old) ≡ move_of r (stack_view stack.new)) }
+fn name_operand(
+    alloc: Global,
+    rules: Rules,
+    name: &Name,
+    token: &TokenKind,
+    stack: &mut Stack,
+) -> Result<Step, NoMemory>
+    requires { token.now ≡ TokenKind.Name name.now }
+    ensures { IfOk result (λ r. operand (bounds rules) rules.side (stack_view stack.old) (TokenKind.Name name.now) ≡ move_of r (stack_view stack.new)) }
 {
-    let _unchanged = stack.leaf_reach(); // this read tells the proof that the stack stays
-    match form_of(side, name) {
-        Some(form) => Ok(Step::Go(Mode::DotNext(form))),
-        None => Ok(go_if(is_binding(side, name), Mode::HaveName(name.copy(alloc)?))),
+    if is_built_in(rules.side, name) {
+        Ok(first_word(alloc, rules, token, stack)?)
+    } else {
+        let _unchanged = stack.here(); // this read tells the proof that the stack stays
+        Ok(Step::Go(Mode::HaveName(name.copy(alloc)?)))
     }
 }
 
 /// A reserved word.
-fn key_operand(keyword: Keyword, stack: &mut Stack) -> Step
-    ensures { key_operand (stack_view stack.old) keyword ≡ move_of result (stack_view stack.new) }
+fn key_operand(
+    alloc: Global,
+    rules: Rules,
+    keyword: Keyword,
+    stack: &mut Stack,
+) -> Result<Step, NoMemory>
+    ensures { IfOk result (λ r. key_operand (bounds rules) rules.side (stack_view stack.old) keyword ≡ move_of r (stack_view stack.new)) }
 {
     match keyword {
-        Keyword::This => have(Expr::This, stack.leaf_reach()),
-        Keyword::New => {
-            let _unchanged = stack.leaf_reach(); // this read tells the proof that the stack stays
-            Step::Go(Mode::NewNext)
+        Keyword::This => Ok(have(Expr::This, stack.here())),
+        Keyword::True => Ok(have(Expr::Truth(true), stack.here())),
+        Keyword::False => Ok(have(Expr::Truth(false), stack.here())),
+        Keyword::Null => Ok(have(Expr::Null, stack.here())),
+        Keyword::New => first_word(alloc, rules, &TokenKind::Keyword(Keyword::New), stack),
+        Keyword::Function => {
+            let mode = Mode::FunctionNext(Role::Expression);
+            Ok(go_if(!begins_statement(stack), mode))
         }
-        Keyword::Function => go_if(takes_whole(stack), Mode::FunctionOpen),
+        Keyword::Async => {
+            let _unchanged = stack.here(); // this read tells the proof that the stack stays
+            Ok(go_if(is_source(rules.side), Mode::AsyncNext))
+        }
+        Keyword::Await => {
+            let test = is_source(rules.side) && fits_below(rules, stack);
+            need_if(test, Frame::Await, stack)
+        }
+        Keyword::Yield => {
+            let test = is_source(rules.side) && takes_whole(stack);
+            let _unchanged = stack.here(); // this read tells the proof that the stack stays
+            Ok(go_if(test, Mode::YieldNext))
+        }
+        Keyword::Typeof => prefix(rules, UnaryOp::Typeof, stack),
+        Keyword::Void => prefix(rules, UnaryOp::Void, stack),
         _ => {
-            let _unchanged = stack.leaf_reach(); // this read tells the proof that the stack stays
-            Step::Refused
+            let _unchanged = stack.here(); // this read tells the proof that the stack stays
+            Ok(Step::Refused)
         }
     }
 }
 
 /// A sign.
-fn sign_operand(alloc: Global, side: Side, sign: Sign, stack: &mut Stack) -> Step
-    ensures { operand side (stack_view stack.old) (TokenKind.Sign sign) ≡ move_of result (stack_view stack.new) }
+fn sign_operand(
+    alloc: Global,
+    rules: Rules,
+    sign: Sign,
+    stack: &mut Stack,
+) -> Result<Step, NoMemory>
+    ensures { IfOk result (λ r. operand (bounds rules) rules.side (stack_view stack.old) (TokenKind.Sign sign) ≡ move_of r (stack_view stack.new)) }
 {
-    let reach = stack.leaf_reach();
     match sign {
-        Sign::OpenParen => Step::Go(Mode::Opened),
-        Sign::OpenBrace => go_if(takes_whole(stack), Mode::KeyNext(Vec::new(alloc), reach)),
-        _ => Step::Refused,
+        Sign::Not => prefix(rules, UnaryOp::Not, stack),
+        Sign::Minus => prefix(rules, UnaryOp::Minus, stack),
+        Sign::Increment => {
+            let _unchanged = stack.here(); // this read tells the proof that the stack stays
+            Ok(Step::Go(Mode::BumpName(true)))
+        }
+        Sign::Decrement => {
+            let _unchanged = stack.here(); // this read tells the proof that the stack stays
+            Ok(Step::Go(Mode::BumpName(false)))
+        }
+        Sign::OpenParen => {
+            let test = takes_whole(stack) || fits_below(rules, stack);
+            let _unchanged = stack.here(); // this read tells the proof that the stack stays
+            Ok(go_if(test, Mode::Opened))
+        }
+        Sign::OpenBrace => {
+            let mode = Mode::KeyNext(Vec::new(alloc), stack.here());
+            Ok(go_if(!begins_statement(stack), mode))
+        }
+        _ => {
+            let _unchanged = stack.here(); // this read tells the proof that the stack stays
+            Ok(Step::Refused)
+        }
     }
 }
 
 /// The first token of an operand.
 fn operand(
     alloc: Global,
-    side: Side,
+    rules: Rules,
     token: &TokenKind,
     stack: &mut Stack,
 ) -> Result<Step, NoMemory>
-    ensures { IfOk result (λ r. operand side (stack_view stack.old) token.now ≡ move_of r (stack_view stack.new)) }
+    ensures { IfOk result (λ r. operand (bounds rules) rules.side (stack_view stack.old) token.now ≡ move_of r (stack_view stack.new)) }
 {
     match token {
-        TokenKind::Number(n) => Ok(have(Expr::Num(*n), stack.leaf_reach())),
-        TokenKind::Text(units) => Ok(have(Expr::Text(units.copy(alloc)?), stack.leaf_reach())),
-        TokenKind::Name(name) => form_or_name(alloc, side, name, stack),
-        TokenKind::Keyword(keyword) => Ok(key_operand(*keyword, stack)),
-        TokenKind::Sign(sign) => Ok(sign_operand(alloc, side, *sign, stack)),
+        TokenKind::Number(n) => Ok(number_operand(rules, *n, stack)),
+        TokenKind::Text(units) => Ok(text_operand(alloc, rules, units, stack)?),
+        TokenKind::Name(name) => name_operand(alloc, rules, name, token, stack),
+        TokenKind::Keyword(keyword) => key_operand(alloc, rules, *keyword, stack),
+        TokenKind::Sign(sign) => sign_operand(alloc, rules, *sign, stack),
     }
-}
-
-/// How many expressions a list has.
-#[tactic(auto, using(crate::proofs::ParseStack::how_many))]
-pub fn count(list: &Vec<Expr>) -> usize
-    ensures { result ≡ count (exprs_view list.now.items) }
-{
-    list.len()
 }
 
 /// A form with these parts, where it takes so many.
@@ -109,31 +175,41 @@ pub fn close_form(form: Form, parts: Vec<Expr>, reach: usize) -> Step
     go_if(fitting, Mode::Have(Operand { expr, reach }))
 }
 
+/// No further argument stands on a frame before the closing parenthesis.
+fn close_arguments_on(alloc: Global, frame: Frame) -> Result<Step, NoMemory>
+    ensures { IfOk result (λ r. (s : List Held) → close_arguments (frame_view frame ∷ s) ≡ move_of r s) }
+{
+    match frame {
+        Frame::Call(callee, args, reach) => Ok(have(call(alloc, callee, args)?, reach)),
+        Frame::Form(form, parts, reach) => Ok(close_form(form, parts, reach)),
+        other => {
+            drop(other);
+            Ok(Step::Refused)
+        }
+    }
+}
+
 /// No further argument stands before the closing parenthesis.
 fn close_arguments(alloc: Global, stack: &mut Stack) -> Result<Step, NoMemory>
     ensures { IfOk result (λ r. close_arguments (stack_view stack.old) ≡ move_of r (stack_view stack.new)) }
 {
     match stack.pop() {
-        Some(Frame::Call(callee, args, reach)) => {
-            let expr = Expr::Call(Box::new(alloc, callee)?, args);
-            Ok(have(expr, reach))
-        }
-        Some(Frame::Form(form, parts, reach)) => Ok(close_form(form, parts, reach)),
-        _ => Ok(Step::Refused),
+        Some(frame) => Ok(close_arguments_on(alloc, frame)?),
+        None => Ok(Step::Refused),
     }
 }
 
 /// A token where an operand begins.
 fn begin_operand(
     alloc: Global,
-    side: Side,
+    rules: Rules,
     token: &TokenKind,
     stack: &mut Stack,
 ) -> Result<Step, NoMemory>
-    ensures { IfOk result (λ r. begin_operand side (stack_view stack.old) token.now ≡ move_of r (stack_view stack.new)) }
+    ensures { IfOk result (λ r. begin_operand (bounds rules) rules.side (stack_view stack.old) token.now ≡ move_of r (stack_view stack.new)) }
 {
-    if fits(side, stack.leaf_reach()) && has_room(side, stack) {
-        operand(alloc, side, token, stack)
+    if fits(rules, stack.here()) && has_room(rules, stack) {
+        Ok(operand(alloc, rules, token, stack)?)
     } else {
         Ok(Step::Refused)
     }
@@ -142,28 +218,51 @@ fn begin_operand(
 /// A token where an operand is wanted.
 pub fn at_need(
     alloc: Global,
-    side: Side,
+    rules: Rules,
     token: &TokenKind,
     stack: &mut Stack,
 ) -> Result<Step, NoMemory>
-    ensures { IfOk result (λ r. at_need side (stack_view stack.old) token.now ≡ move_of r (stack_view stack.new)) }
+    ensures { IfOk result (λ r. at_need (bounds rules) rules.side (stack_view stack.old) token.now ≡ move_of r (stack_view stack.new)) }
 {
     match token {
         TokenKind::Sign(Sign::CloseParen) => close_arguments(alloc, stack),
-        _ => begin_operand(alloc, side, token, stack),
+        _ => begin_operand(alloc, rules, token, stack),
     }
 }
 
 /// A token where an operand is wanted on one more frame.
 pub fn need_on(
     alloc: Global,
-    side: Side,
+    rules: Rules,
     frame: Frame,
     token: &TokenKind,
     stack: &mut Stack,
 ) -> Result<Step, NoMemory>
-    ensures { IfOk result (λ r. at_need side (frame_view frame ∷ stack_view stack.old) token.now ≡ move_of r (stack_view stack.new)) }
+    ensures { IfOk result (λ r. at_need (bounds rules) rules.side (frame_view frame ∷ stack_view stack.old) token.now ≡ move_of r (stack_view stack.new)) }
 {
     stack.push(frame)?;
-    at_need(alloc, side, token, stack)
+    at_need(alloc, rules, token, stack)
+}
+
+/// A token behind `++` or `--`: the name that is changed.
+pub fn at_bump_name(
+    alloc: Global,
+    rules: Rules,
+    up: bool,
+    token: &TokenKind,
+) -> Result<Step, NoMemory>
+    ensures { IfOk result (λ r. (s : List Held) → at_bump_name rules.side up s token.now ≡ move_of r s) }
+{
+    match token {
+        TokenKind::Name(name) => {
+            let fitting = is_binding(rules.side, name);
+            let name = name.copy(alloc)?;
+            let before = true;
+            Ok(go_if(fitting, Mode::HaveBump(Expr::Bump { name, up, before })))
+        }
+        TokenKind::Keyword(_) => Ok(Step::Refused),
+        TokenKind::Number(_) => Ok(Step::Refused),
+        TokenKind::Text(_) => Ok(Step::Refused),
+        TokenKind::Sign(_) => Ok(Step::Refused),
+    }
 }

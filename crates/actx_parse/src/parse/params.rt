@@ -1,209 +1,59 @@
-//! Names and parameters, as the `a` of `( a ) => a`, which is first read as an expression.
+//! Parameters and what stands before a function's body, as the sign `=>` of an arrow.
 
-ghost use Rattle.std.specs.Prelude.{◌≡◌, ◌∷◌, [], if◌then◌else◌, IfOk, List};
-ghost use Rattle.actx_parse.specs.Parser.{Frame as Held, at_closed, at_first, at_have, at_name, at_opened, at_param, behind_param, close_params, fits, in_paren, leaf_reach, named};
-ghost use Rattle.actx_parse.specs.ParserView.{move_of, stack_view};
-ghost use Rattle.actx_parse.specs.View.{expr_view};
+ghost use Rattle.std.specs.Prelude.{◌≡◌, IfOk, List, true, false};
+ghost use Rattle.actx_ast.specs.ParserFunctions.{at_arrow_body, at_arrow_sign, at_body_open, at_param, at_params_open, behind_param, close_params, function_depth};
+ghost use Rattle.actx_ast.specs.ParserState.{Frame as Held, function_head};
+ghost use Rattle.actx_parse.specs.ParserView.{bounds, head_view, move_of, role_view, stack_view};
 
-use super::behind::at_have;
-use super::limits::{deepest, takes_more, takes_whole};
-use super::operand::{go_if, need_on};
+use super::limits::{Rules, deeper, takes_more};
+use super::moves::{go_if, open_list};
+use super::operand::need_on;
 use super::stack::Stack;
-use super::state::{Frame, Mode, Operand, Step};
-use super::word::{is_binding, is_undefined};
-use crate::name::Name;
-use crate::side::Side;
-use crate::token::{Sign, TokenKind};
-use crate::tree::{Expr, FunctionKind};
+use super::state::{Frame, Head, ListOwner, Mode, Role, Step};
+use super::word::is_binding;
+use actx_ast::name::Name;
+use actx_ast::operators::FunctionKind;
+use actx_ast::token::{Sign, TokenKind};
 use actx_data::{NoMemory, Twin};
 use std::alloc::Global;
-
-/// A name that is an expression.
-pub fn named(alloc: Global, name: &Name) -> Result<Expr, NoMemory>
-    ensures { IfOk result (λ e. expr_view e ≡ named name.now) }
-{
-    if is_undefined(name) {
-        Ok(Expr::Undefined)
-    } else {
-        Ok(Expr::Named(name.copy(alloc)?))
-    }
-}
-
-/// The list of one name.
-fn one_param(alloc: Global, name: Name) -> Result<Vec<Name>, NoMemory>
-    ensures { IfOk result (λ xs. xs.items ≡ name ∷ []) }
-{
-    let mut params = Vec::new(alloc);
-    params.push(name)?;
-    Ok(params)
-}
-
-/// The name is an operand.
-fn have_named(
-    alloc: Global,
-    side: Side,
-    name: &Name,
-    token: &TokenKind,
-    stack: &mut Stack,
-) -> Result<Step, NoMemory>
-    ensures { IfOk result (λ r. at_have side (named name.now) (leaf_reach (stack_view stack.old)) (stack_view stack.old) token.now ≡ move_of r (stack_view stack.new)) }
-{
-    let expr = named(alloc, name)?;
-    let reach = stack.leaf_reach();
-    at_have(alloc, side, Operand { expr, reach }, token, stack)
-}
-
-/// A token behind a name, which might be an arrow's parameter.
-pub fn at_name(
-    alloc: Global,
-    side: Side,
-    name: Name,
-    token: &TokenKind,
-    stack: &mut Stack,
-) -> Result<Step, NoMemory>
-    ensures { IfOk result (λ r. at_name side name (stack_view stack.old) token.now ≡ move_of r (stack_view stack.new)) }
-{
-    match token {
-        TokenKind::Sign(Sign::Arrow) => {
-            let params = one_param(alloc, name)?;
-            Ok(go_if(takes_whole(stack), Mode::ArrowBody(params)))
-        }
-        _ => have_named(alloc, side, &name, token, stack),
-    }
-}
-
-/// Opens a parenthesis, where what stands in it may be so deep.
-fn open_paren(side: Side, stack: &mut Stack) -> Result<bool, NoMemory>
-    ensures { IfOk result (λ b. (fits side (leaf_reach (in_paren ∷ stack_view stack.old)) ≡ b) × (stack_view stack.new ≡ (if b then in_paren ∷ stack_view stack.old else stack_view stack.old))) }
-{
-    if stack.leaf_reach() < deepest(side) {
-        stack.push(Frame::Paren)?;
-        Ok(true)
-    } else {
-        Ok(false)
-    }
-}
-
-/// A token behind a parenthesis where an operand begins.
-pub fn at_opened(
-    alloc: Global,
-    side: Side,
-    token: &TokenKind,
-    stack: &mut Stack,
-) -> Result<Step, NoMemory>
-    ensures { IfOk result (λ r. at_opened side (stack_view stack.old) token.now ≡ move_of r (stack_view stack.new)) }
-{
-    match token {
-        TokenKind::Sign(Sign::CloseParen) => {
-            Ok(go_if(takes_whole(stack), Mode::ArrowSign(Vec::new(alloc))))
-        }
-        TokenKind::Name(name) => {
-            if is_binding(side, name) {
-                Ok(Step::Go(Mode::FirstName(name.copy(alloc)?)))
-            } else {
-                need_on(alloc, side, Frame::Paren, token, stack)
-            }
-        }
-        _ => need_on(alloc, side, Frame::Paren, token, stack),
-    }
-}
-
-/// A token behind a name in an open parenthesis.
-pub fn at_first(
-    alloc: Global,
-    side: Side,
-    name: Name,
-    token: &TokenKind,
-    stack: &mut Stack,
-) -> Result<Step, NoMemory>
-    ensures { IfOk result (λ r. at_first side name (stack_view stack.old) token.now ≡ move_of r (stack_view stack.new)) }
-{
-    match token {
-        TokenKind::Sign(Sign::Comma) => {
-            let params = one_param(alloc, name)?;
-            let mode = Mode::ParamNext(FunctionKind::Arrow, params);
-            Ok(go_if(takes_whole(stack), mode))
-        }
-        TokenKind::Sign(Sign::CloseParen) => Ok(Step::Go(Mode::ClosedName(name))),
-        _ => {
-            if open_paren(side, stack)? {
-                at_name(alloc, side, name, token, stack)
-            } else {
-                Ok(Step::Refused)
-            }
-        }
-    }
-}
-
-/// A token behind a name in parentheses.
-pub fn at_closed(
-    alloc: Global,
-    side: Side,
-    name: Name,
-    token: &TokenKind,
-    stack: &mut Stack,
-) -> Result<Step, NoMemory>
-    ensures { IfOk result (λ r. at_closed side name (stack_view stack.old) token.now ≡ move_of r (stack_view stack.new)) }
-{
-    match token {
-        TokenKind::Sign(Sign::Arrow) => {
-            let params = one_param(alloc, name)?;
-            Ok(go_if(takes_whole(stack), Mode::ArrowBody(params)))
-        }
-        _ => {
-            let reach = stack.leaf_reach();
-            if reach < deepest(side) {
-                let expr = named(alloc, &name)?;
-                let reach = reach + 1;
-                at_have(alloc, side, Operand { expr, reach }, token, stack)
-            } else {
-                Ok(Step::Refused)
-            }
-        }
-    }
-}
+use std::cmp::max;
 
 /// The list of parameters ends.
-fn close_params(kind: FunctionKind, params: Vec<Name>) -> Step
-    ensures { (s : List Held) → close_params kind params.items s ≡ move_of result s }
+fn close_params(head: Head, params: Vec<Name>) -> Step
+    ensures { (s : List Held) → close_params (head_view head) params.items s ≡ move_of result s }
 {
-    match kind {
-        FunctionKind::Arrow => Step::Go(Mode::ArrowSign(params)),
-        FunctionKind::Normal => Step::Go(Mode::FunctionBody(params)),
+    match head {
+        Head::Arrow(kind) => Step::Go(Mode::ArrowSign(kind, params)),
+        Head::Function(role, kind, name) => {
+            let head = Head::Function(role, kind, name);
+            Step::Go(Mode::BodyOpen(head, params))
+        }
     }
 }
 
 /// One more parameter.
-fn add_param(
-    side: Side,
-    kind: FunctionKind,
-    params: Vec<Name>,
-    name: Name,
-) -> Result<Step, NoMemory>
-    ensures { IfOk result (λ r. (s : List Held) → at_param side kind params.items s (TokenKind.Name name) ≡ move_of r s) }
+fn add_param(rules: Rules, head: Head, params: Vec<Name>, name: Name) -> Result<Step, NoMemory>
+    ensures { IfOk result (λ r. (s : List Held) → at_param (bounds rules) rules.side (head_view head) params.items s (TokenKind.Name name) ≡ move_of r s) }
 {
     let mut params = params;
-    if is_binding(side, &name) && takes_more(side, params.len()) {
-        params.push(name)?;
-        Ok(Step::Go(Mode::ParamBehind(kind, params)))
-    } else {
-        Ok(Step::Refused)
-    }
+    let test = is_binding(rules.side, &name) && takes_more(rules, params.len());
+    params.push(name)?;
+    Ok(go_if(test, Mode::ParamBehind(head, params)))
 }
 
 /// A parameter, or the end of the list.
 pub fn at_param(
     alloc: Global,
-    side: Side,
-    kind: FunctionKind,
+    rules: Rules,
+    head: Head,
     params: Vec<Name>,
     token: &TokenKind,
 ) -> Result<Step, NoMemory>
-    ensures { IfOk result (λ r. (s : List Held) → at_param side kind params.items s token.now ≡ move_of r s) }
+    ensures { IfOk result (λ r. (s : List Held) → at_param (bounds rules) rules.side (head_view head) params.items s token.now ≡ move_of r s) }
 {
     match token {
-        TokenKind::Name(name) => add_param(side, kind, params, name.copy(alloc)?),
-        TokenKind::Sign(Sign::CloseParen) => Ok(close_params(kind, params)),
+        TokenKind::Name(name) => add_param(rules, head, params, name.copy(alloc)?),
+        TokenKind::Sign(Sign::CloseParen) => Ok(close_params(head, params)),
         TokenKind::Sign(_) => Ok(Step::Refused),
         TokenKind::Keyword(_) => Ok(Step::Refused),
         TokenKind::Number(_) => Ok(Step::Refused),
@@ -212,12 +62,119 @@ pub fn at_param(
 }
 
 /// A token behind a parameter.
-pub fn behind_param(kind: FunctionKind, params: Vec<Name>, token: &TokenKind) -> Step
-    ensures { (s : List Held) → behind_param kind params.items s token.now ≡ move_of result s }
+pub fn behind_param(head: Head, params: Vec<Name>, token: &TokenKind) -> Step
+    ensures { (s : List Held) → behind_param (head_view head) params.items s token.now ≡ move_of result s }
 {
     match token {
-        TokenKind::Sign(Sign::Comma) => Step::Go(Mode::ParamNext(kind, params)),
-        TokenKind::Sign(Sign::CloseParen) => close_params(kind, params),
+        TokenKind::Sign(Sign::Comma) => Step::Go(Mode::ParamNext(head, params)),
+        TokenKind::Sign(Sign::CloseParen) => close_params(head, params),
+        TokenKind::Sign(_) => Step::Refused,
+        TokenKind::Name(_) => Step::Refused,
+        TokenKind::Keyword(_) => Step::Refused,
+        TokenKind::Number(_) => Step::Refused,
+        TokenKind::Text(_) => Step::Refused,
+    }
+}
+
+/// A token where `=>` is wanted, on the line of what stands before it.
+pub fn at_arrow_sign(
+    kind: FunctionKind,
+    params: Vec<Name>,
+    token: &TokenKind,
+    line_before: bool,
+) -> Step
+    ensures { (s : List Held) → at_arrow_sign kind params.items s token.now line_before ≡ move_of result s }
+{
+    match token {
+        TokenKind::Sign(Sign::Arrow) => {
+            if line_before {
+                Step::Refused
+            } else {
+                Step::Go(Mode::ArrowBody(kind, params))
+            }
+        }
+        TokenKind::Sign(_) => Step::Refused,
+        TokenKind::Name(_) => Step::Refused,
+        TokenKind::Keyword(_) => Step::Refused,
+        TokenKind::Number(_) => Step::Refused,
+        TokenKind::Text(_) => Step::Refused,
+    }
+}
+
+/// The first token of an arrow's body.
+pub fn at_arrow_body(
+    alloc: Global,
+    rules: Rules,
+    kind: FunctionKind,
+    params: Vec<Name>,
+    token: &TokenKind,
+    stack: &mut Stack,
+) -> Result<Step, NoMemory>
+    ensures { IfOk result (λ r. at_arrow_body (bounds rules) rules.side kind params.items (stack_view stack.old) token.now ≡ move_of r (stack_view stack.new)) }
+{
+    match token {
+        TokenKind::Sign(Sign::OpenBrace) => {
+            let owner = ListOwner::Body(Head::Arrow(kind), params);
+            open_list(alloc, owner, stack.here(), stack)
+        }
+        _ => need_on(alloc, rules, Frame::Arrow(kind, params), token, stack),
+    }
+}
+
+/// The reach of a method, if the role is one, and the depth of the function that stands here.
+fn role_depth(
+    role: &Role,
+    kind: FunctionKind,
+    name: &Option<Name>,
+    stack: &Stack,
+) -> Result<usize, NoMemory>
+    ensures { IfOk result (λ n. n ≡ function_depth (function_head (role_view role.now) kind name.now) (stack_view stack.now)) }
+{
+    match role {
+        Role::Method(_, _, reach) => Ok(max(*reach, deeper(stack.here())?)),
+        _ => Ok(stack.here()),
+    }
+}
+
+/// The depth of the function whose body is read; of a method it is one below its object.
+fn function_depth(head: &Head, stack: &Stack) -> Result<usize, NoMemory>
+    ensures { IfOk result (λ n. n ≡ function_depth (head_view head.now) (stack_view stack.now)) }
+{
+    match head {
+        Head::Function(role, kind, name) => Ok(role_depth(role, *kind, name, stack)?),
+        Head::Arrow(_) => Ok(stack.here()),
+    }
+}
+
+/// A token where the body of a function is wanted.
+pub fn at_body_open(
+    alloc: Global,
+    head: Head,
+    params: Vec<Name>,
+    token: &TokenKind,
+    stack: &mut Stack,
+) -> Result<Step, NoMemory>
+    ensures { IfOk result (λ r. at_body_open (head_view head) params.items (stack_view stack.old) token.now ≡ move_of r (stack_view stack.new)) }
+{
+    let reach = function_depth(&head, stack)?;
+    match token {
+        TokenKind::Sign(Sign::OpenBrace) => {
+            Ok(open_list(alloc, ListOwner::Body(head, params), reach, stack)?)
+        }
+        TokenKind::Sign(_) => Ok(Step::Refused),
+        TokenKind::Name(_) => Ok(Step::Refused),
+        TokenKind::Keyword(_) => Ok(Step::Refused),
+        TokenKind::Number(_) => Ok(Step::Refused),
+        TokenKind::Text(_) => Ok(Step::Refused),
+    }
+}
+
+/// A token where the parenthesis before parameters is wanted.
+pub fn at_params_open(alloc: Global, head: Head, token: &TokenKind) -> Step
+    ensures { (s : List Held) → at_params_open (head_view head) s token.now ≡ move_of result s }
+{
+    match token {
+        TokenKind::Sign(Sign::OpenParen) => Step::Go(Mode::ParamNext(head, Vec::new(alloc))),
         TokenKind::Sign(_) => Step::Refused,
         TokenKind::Name(_) => Step::Refused,
         TokenKind::Keyword(_) => Step::Refused,

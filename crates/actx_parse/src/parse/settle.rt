@@ -1,60 +1,115 @@
 //! What an operand ends, as the `2` of `1 * 2 + 3` ends the product.
 
-ghost use Rattle.std.specs.Prelude.{◌≡◌, IfOk, max};
-ghost use Rattle.actx_parse.specs.Parser.{settle};
-ghost use Rattle.actx_parse.specs.ParserView.{settled_of, stack_view};
-ghost use Rattle.actx_parse.specs.View.{expr_view};
-ghost use Rattle.actx_parse.specs.Tree.{Function as Functional, Binary, Return, SetMember, end, next};
-ghost use Rattle.actx_parse.specs.declared.tree.FunctionKind.TheVariants.{Arrow};
+ghost use Rattle.std.specs.Prelude.{◌≡◌, ◌∷◌, IfOk, List};
+ghost use Rattle.actx_ast.specs.ParserState.{Frame as Held, settle};
+ghost use Rattle.actx_ast.specs.View.{expr_view};
+ghost use Rattle.actx_parse.specs.ParserView.{bound_of, frame_view, settled_of, stack_view};
 
-use super::level::level_of;
-use super::lists::function;
+use super::levels::{level_of, logic_level};
+use super::nodes::{
+    arrow, awaited, binary, change, choice, logic, set_member, set_name, unary, yielded,
+    yielded_all,
+};
 use super::stack::Stack;
 use super::state::{Frame, Operand};
-use crate::name::Name;
-use crate::tree::{BinaryOp, Expr, FunctionKind, Stmt};
 use actx_data::NoMemory;
 use std::alloc::Global;
-use std::cmp::max;
 
-/// An operation on two operands.
-fn operation(
-    alloc: Global,
-    op: BinaryOp,
-    left: Operand,
-    right: Operand,
-) -> Result<Operand, NoMemory>
-    ensures { IfOk result (λ o. (expr_view o.expr ≡ Binary op (expr_view left.expr) (expr_view right.expr)) × (o.reach ≡ max left.reach right.reach)) }
-{
-    let reach = max(left.reach, right.reach);
-    let first = Box::new(alloc, left.expr)?;
-    let expr = Expr::Binary(op, first, Box::new(alloc, right.expr)?);
-    Ok(Operand { expr, reach })
+/// What becomes of an operand on a frame: it ends the frame, or the frame stays below it.
+#[derive(Drop)]
+pub enum Bound {
+    Held(Operand),
+    Back(Frame, Operand),
 }
 
-/// A property that is set to a value.
-fn setting(alloc: Global, base: Operand, key: Name, value: Operand) -> Result<Operand, NoMemory>
-    ensures { IfOk result (λ o. (expr_view o.expr ≡ SetMember (expr_view base.expr) key (expr_view value.expr)) × (o.reach ≡ max base.reach value.reach)) }
+/// An operand on a frame, which ends it where the frame binds at the level at least.
+fn bind(alloc: Global, level: u8, frame: Frame, held: Operand) -> Result<Bound, NoMemory>
+    ensures { IfOk result (λ b. (s : List Held) → settle level (expr_view held.expr) held.reach (frame_view frame ∷ s) ≡ bound_of level b s) }
 {
-    let reach = max(base.reach, value.reach);
-    let first = Box::new(alloc, base.expr)?;
-    let expr = Expr::SetMember(first, key, Box::new(alloc, value.expr)?);
-    Ok(Operand { expr, reach })
+    match frame {
+        Frame::Unary(op) => {
+            if level <= 9 {
+                Ok(Bound::Held(unary(alloc, op, held)?))
+            } else {
+                Ok(Bound::Back(Frame::Unary(op), held))
+            }
+        }
+        Frame::Await => {
+            if level <= 9 {
+                Ok(Bound::Held(awaited(alloc, held)?))
+            } else {
+                Ok(Bound::Back(Frame::Await, held))
+            }
+        }
+        Frame::Binary(op, left) => {
+            if level <= level_of(op) {
+                Ok(Bound::Held(binary(alloc, op, left, held)?))
+            } else {
+                Ok(Bound::Back(Frame::Binary(op, left), held))
+            }
+        }
+        Frame::Logic(op, left) => {
+            if level <= logic_level(op) {
+                Ok(Bound::Held(logic(alloc, op, left, held)?))
+            } else {
+                Ok(Bound::Back(Frame::Logic(op, left), held))
+            }
+        }
+        Frame::Other(test, yes) => {
+            if level <= 2 {
+                Ok(Bound::Held(choice(alloc, test, yes, held)?))
+            } else {
+                Ok(Bound::Back(Frame::Other(test, yes), held))
+            }
+        }
+        Frame::SetName(name) => {
+            if level <= 1 {
+                Ok(Bound::Held(set_name(alloc, name, held)?))
+            } else {
+                Ok(Bound::Back(Frame::SetName(name), held))
+            }
+        }
+        Frame::Set(base, key, reach) => {
+            if level <= 1 {
+                Ok(Bound::Held(set_member(alloc, base, key, reach, held)?))
+            } else {
+                Ok(Bound::Back(Frame::Set(base, key, reach), held))
+            }
+        }
+        Frame::Change(name, op) => {
+            if level <= 1 {
+                Ok(Bound::Held(change(alloc, name, op, held)?))
+            } else {
+                Ok(Bound::Back(Frame::Change(name, op), held))
+            }
+        }
+        Frame::Arrow(kind, params) => {
+            if level <= 1 {
+                Ok(Bound::Held(arrow(alloc, kind, params, held)?))
+            } else {
+                Ok(Bound::Back(Frame::Arrow(kind, params), held))
+            }
+        }
+        Frame::Yield => {
+            if level <= 1 {
+                Ok(Bound::Held(yielded(alloc, held)?))
+            } else {
+                Ok(Bound::Back(Frame::Yield, held))
+            }
+        }
+        Frame::YieldAll => {
+            if level <= 1 {
+                Ok(Bound::Held(yielded_all(alloc, held)?))
+            } else {
+                Ok(Bound::Back(Frame::YieldAll, held))
+            }
+        }
+        other => Ok(Bound::Back(other, held)),
+    }
 }
 
-/// An arrow whose body is an expression.
-fn arrow(alloc: Global, params: Vec<Name>, value: Operand) -> Result<Operand, NoMemory>
-    ensures { IfOk result (λ o. (expr_view o.expr ≡ Functional Arrow params.items (next (Return (expr_view value.expr)) end)) × (o.reach ≡ value.reach)) }
-{
-    let Operand { expr, reach } = value;
-    let mut body = Vec::new(alloc);
-    body.push(Stmt::Return(Some(expr)))?;
-    let expr = function(alloc, FunctionKind::Arrow, params, body)?;
-    Ok(Operand { expr, reach })
-}
-
-/// The operand with what it ends: the operators on the stack that bind at the level at least, and at level 1 a property
-/// that is set and an arrow.
+/// The operand with what it ends: the operators on the stack that bind at the level at least, and at level 1 what is
+/// set and an arrow.
 pub fn settle(
     alloc: Global,
     level: u8,
@@ -65,31 +120,11 @@ pub fn settle(
 {
     let mut held = operand;
     while let Some(frame) = stack.pop() {
-        match frame {
-            Frame::Binary(op, left) => {
-                if level > level_of(op) {
-                    stack.push(Frame::Binary(op, left))?;
-                    break;
-                }
-                held = operation(alloc, op, left, held)?;
-            }
-            Frame::Set(base, key) => {
-                if level > 1 {
-                    stack.push(Frame::Set(base, key))?;
-                    break;
-                }
-                held = setting(alloc, base, key, held)?;
-            }
-            Frame::Arrow(params) => {
-                if level > 1 {
-                    stack.push(Frame::Arrow(params))?;
-                    break;
-                }
-                held = arrow(alloc, params, held)?;
-            }
-            other => {
-                stack.push(other)?;
-                break;
+        match bind(alloc, level, frame, held)? {
+            Bound::Held(next) => held = next,
+            Bound::Back(frame, held) => {
+                stack.push(frame)?;
+                return Ok(held);
             }
         }
     }

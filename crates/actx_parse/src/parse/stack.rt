@@ -1,10 +1,13 @@
 //! The stack of all that is open, as the call and the `const` in `const a = f ( 1`.
 
-ghost use Rattle.std.specs.Prelude.{◌≡◌, ◌∷◌, [], List, MatchOption, OnOk};
-ghost use Rattle.actx_parse.specs.Parser.{frame_levels, leaf_reach};
-ghost use Rattle.actx_parse.specs.ParserView.{frame_view, stack_view};
+ghost use Rattle.std.specs.Prelude.{◌≡◌, ◌∷◌, [], ℕ, List, MatchOption, OnOk};
+ghost use Rattle.actx_ast.specs.ParserState.{frame_levels, function_head, here, in_list, role_levels};
+ghost use Rattle.actx_ast.specs.Tree.{Stmts};
+ghost use Rattle.actx_parse.specs.ParserView.{frame_view, head_view, owner_view, role_view, stack_view};
 
-use super::state::{Frame, ListOwner};
+use super::state::{Frame, Head, ListOwner, Role};
+use actx_ast::name::Name;
+use actx_ast::operators::FunctionKind;
 use actx_data::NoMemory;
 use std::alloc::Global;
 use std::marker::Model;
@@ -20,17 +23,23 @@ pub struct Stack {
 impl Model for Stack {
     ghost use Rattle.std.specs.Prelude.{◌≡◌, List, []};
     ghost use Rattle.std.specs.Coded.{codes};
-    ghost use Rattle.actx_parse.specs.contracts.tree.Expr as expr;
-    ghost use Rattle.actx_parse.specs.contracts.tree.Stmt as stmt;
-    ghost use Rattle.actx_parse.specs.contracts.tree.ConstItem as item;
-    ghost use Rattle.actx_parse.specs.contracts.tree.Property as property;
+    ghost use Rattle.actx_ast.specs.contracts.tree.Catcher as catcher;
+    ghost use Rattle.actx_ast.specs.contracts.tree.Clause as clause;
+    ghost use Rattle.actx_ast.specs.contracts.tree.ConstItem as const_item;
+    ghost use Rattle.actx_ast.specs.contracts.tree.Expr as expr;
+    ghost use Rattle.actx_ast.specs.contracts.tree.ForInit as init;
+    ghost use Rattle.actx_ast.specs.contracts.tree.Key as key;
+    ghost use Rattle.actx_ast.specs.contracts.tree.LetItem as let_item;
+    ghost use Rattle.actx_ast.specs.contracts.tree.Property as property;
+    ghost use Rattle.actx_ast.specs.contracts.tree.PropKey as prop_key;
+    ghost use Rattle.actx_ast.specs.contracts.tree.Stmt as stmt;
     ghost use Rattle.actx_parse.specs.declared.parse.state.Frame.{Frame};
 
     ghost Value = { List Frame };
 
-    ghost coded = { Prim.hlevel (codes, expr.the_row.coded, stmt.the_row.coded, item.the_row.coded, property.the_row.coded) };
+    ghost coded = { Prim.hlevel (codes, key.the_row.coded, prop_key.the_row.coded, init.the_row.coded, catcher.the_row.coded, expr.the_row.coded, stmt.the_row.coded, const_item.the_row.coded, let_item.the_row.coded, clause.the_row.coded, property.the_row.coded) };
 
-    ghost use Rattle.actx_parse.specs.Parser as machine;
+    ghost use Rattle.actx_ast.specs.ParserState as machine;
     ghost use Rattle.actx_parse.specs.ParserView.{onto, stack_view};
 
     ghost view = { λ s. onto s.frames.items [] };
@@ -38,14 +47,43 @@ impl Model for Stack {
     ghost invariant = { λ s. s.levels ≡ machine.levels (stack_view (onto s.frames.items [])) };
 }
 
+fn role_levels(role: &Role, kind: FunctionKind, name: &Option<Name>) -> usize
+    ensures { result ≡ role_levels (function_head (role_view role.now) kind name.now) }
+{
+    match role {
+        Role::Method(_, _, _) => 2,
+        _ => 1,
+    }
+}
+
+/// How many levels of the depth a function makes; of a method also its object.
+fn head_levels(head: &Head) -> usize
+    ensures { result ≡ role_levels (head_view head.now) }
+{
+    match head {
+        Head::Function(role, kind, name) => role_levels(role, *kind, name),
+        Head::Arrow(_) => 1,
+    }
+}
+
+/// How many levels of the depth a list of statements makes.
+fn owner_levels(owner: &ListOwner) -> usize
+    ensures { (ss : Stmts) (r : ℕ) → result ≡ frame_levels (in_list (owner_view owner.now) ss r) }
+{
+    match owner {
+        ListOwner::Program => 0,
+        ListOwner::Body(head, _) => head_levels(head),
+        _ => 1,
+    }
+}
+
 /// How many levels of the depth a frame makes.
 fn frame_levels(frame: &Frame) -> usize
     ensures { result ≡ frame_levels (frame_view frame.now) }
 {
     match frame {
-        Frame::Arrow(_) => 2,
-        Frame::List(ListOwner::Program, _, _) => 0,
-        Frame::List(ListOwner::Branch(_), _, _) => 2,
+        Frame::Arrow(_, _) => 2,
+        Frame::List(owner, _, _) => owner_levels(owner),
         _ => 1,
     }
 }
@@ -90,10 +128,10 @@ impl Stack {
         }
     }
 
-    /// The depth of a node that has no parts.
+    /// The depth of a node that stands here.
     #[tactic(auto, using(crate::proofs::ParseStack::levels_most))]
-    pub fn leaf_reach(&self) -> usize
-        ensures { result ≡ leaf_reach (stack_view self.now) }
+    pub fn here(&self) -> usize
+        ensures { result ≡ here (stack_view self.now) }
     {
         let _frames = self.frames.len(); // this bounds the levels
         self.levels + 1

@@ -1,16 +1,18 @@
 //! Names that the grammar knows, as `console`.
 
-ghost use Rattle.std.specs.Prelude.{◌≡◌};
-ghost use Rattle.actx_parse.specs.Parser.{is_binding, is_one_of, is_undefined};
-ghost use Rattle.actx_parse.specs.Grammar.{built_in};
-ghost use Rattle.actx_parse.specs.Lexical.{same_text};
+ghost use Rattle.std.specs.Prelude.{◌≡◌, IfOk};
+ghost use Rattle.actx_ast.specs.ParserOperands.{is_binding, is_built_in, named, same_word};
+ghost use Rattle.actx_ast.specs.View.{expr_view};
 
-use crate::name::Name;
-use crate::side::Side;
+use actx_ast::name::Name;
+use actx_ast::side::Side;
+use actx_ast::tree::Expr;
+use actx_data::{NoMemory, Twin};
+use std::alloc::Global;
 
 /// Whether the name is this word of ASCII characters.
 pub fn is_word(name: &Name, word: &[u8]) -> bool
-    ensures { result ≡ same_text name.now word.now }
+    ensures { result ≡ same_word name.now word.now }
 {
     let chars = name.as_slice();
     if chars.len() != word.len() {
@@ -25,8 +27,8 @@ pub fn is_word(name: &Name, word: &[u8]) -> bool
 }
 
 /// Whether the name is of a built-in thing.
-fn is_built_in(side: Side, name: &Name) -> bool
-    ensures { result ≡ is_one_of (built_in side) name.now }
+pub fn is_built_in(side: Side, name: &Name) -> bool
+    ensures { result ≡ is_built_in side name.now }
 {
     match side {
         Side::Source => {
@@ -62,9 +64,13 @@ pub fn is_binding(side: Side, name: &Name) -> bool
     !is_built_in(side, name)
 }
 
-/// Whether the name is of the value `undefined`.
-pub fn is_undefined(name: &Name) -> bool
-    ensures { result ≡ is_undefined name.now }
+/// A name that is an expression.
+pub fn named(alloc: Global, name: &Name) -> Result<Expr, NoMemory>
+    ensures { IfOk result (λ e. expr_view e ≡ named name.now) }
 {
-    is_word(name, b"undefined")
+    if is_word(name, b"undefined") {
+        Ok(Expr::Undefined)
+    } else {
+        Ok(Expr::Named(name.copy(alloc)?))
+    }
 }

@@ -6,8 +6,8 @@ use Rattle.actx_match.proofs.Pairing.{get_front, get_last, set_last, append_nil}
 use Rattle.actx_data.specs.declared.trace.TraceEvent.{TraceEvent}
 use Rattle.actx_data.specs.declared.value.Value.{Value}
 use Rattle.actx_data.specs.declared.value.Value.TheVariants as v
-use Rattle.actx_parse.specs.declared.side.Side.TheVariants.{Plain as plain}
-use Rattle.actx_parse.specs.Tree as t
+use Rattle.actx_ast.specs.declared.side.Side.TheVariants.{Plain as plain}
+use Rattle.actx_ast.specs.Tree as t
 use Rattle.actx_top.specs.Machine.{at, takes, step, call_thing, first, rest}
 use Rattle.actx_top.specs.Prelude.{key_mapping, run_block, run_last}
 use Rattle.actx_top.specs.Properties.{entry_at}
@@ -23,7 +23,7 @@ run_call r self ws gs = call_thing plain (Some run_thing_of) self ws gs r
 
 -- the frames and the store while the new mapping is made
 abbrev run_frames : Store → List Frame → List Frame
-run_frames r gs = Pending (SetKey key_mapping) (v.Thing 3 ∷ []) t.none ∷ ValueFrame ∷ ListFrame (t.next (t.Try run_block run_last) t.end) (length r.scopes ∷ 0 ∷ []) ∷ CallFrame r.scope r.receiver ∷ gs
+run_frames r gs = Pending (SetKey key_mapping) (v.Thing 3 ∷ []) t.none ∷ ValueFrame ∷ ListFrame (t.next (t.Try run_block t.no_catch (t.last run_last)) t.end) (length r.scopes ∷ 0 ∷ []) ∷ CallFrame r.scope r.receiver ∷ gs
 
 abbrev run_store : Store → Value → List Value → ℕ → Value → Store
 run_store r self ws k old = record r { scope = length r.scopes ∷ 0 ∷ []; receiver = self; scopes = r.scopes ++ run_cells ws (Some (v.Thing k)) (Some old) ∷ [] }

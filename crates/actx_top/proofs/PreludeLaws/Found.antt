@@ -11,8 +11,8 @@ use Rattle.actx_match.proofs.Pairing.{get_front, get_last}
 use Rattle.actx_data.specs.declared.trace.TraceEvent.{TraceEvent}
 use Rattle.actx_data.specs.declared.value.Value.{Value}
 use Rattle.actx_data.specs.declared.value.Value.TheVariants as v
-use Rattle.actx_parse.specs.declared.side.Side.TheVariants.{Plain as plain}
-use Rattle.actx_parse.specs.Tree as t
+use Rattle.actx_ast.specs.declared.side.Side.TheVariants.{Plain as plain}
+use Rattle.actx_ast.specs.Tree as t
 use Rattle.actx_top.specs.Agent.{mapped_or}
 use Rattle.actx_top.specs.Machine.{at, takes, step, call_thing}
 use Rattle.actx_top.specs.Prelude.{the_list, the_number, the_other}
@@ -50,7 +50,7 @@ find_cells m n d = param the_list m ∷ param the_number (v.Num (pos n)) ∷ par
 
 -- the frames and the store of the walk through the rest
 abbrev find_frames : Store → Value → ℕ → Value → List Frame → List Frame
-find_frames r m n d gs = ReturnFrame ∷ ListFrame t.end (length r.scopes ∷ 0 ∷ []) ∷ ListFrame (t.next (t.Return (t.Named the_other)) t.end) (length r.scopes ∷ 0 ∷ []) ∷ CallFrame r.scope r.receiver ∷ gs
+find_frames r m n d gs = ReturnFrame ∷ ListFrame t.end (length r.scopes ∷ 0 ∷ []) ∷ ListFrame (t.next (t.Return (t.some_expr (t.Named the_other))) t.end) (length r.scopes ∷ 0 ∷ []) ∷ CallFrame r.scope r.receiver ∷ gs
 
 abbrev find_store : Store → Value → ℕ → Value → Store
 find_store r m n d = record r { scope = length (r.scopes ++ find_cells m n d ∷ []) ∷ length r.scopes ∷ 0 ∷ []; receiver = v.Undefined; scopes = (r.scopes ++ find_cells m n d ∷ []) ++ [] ∷ [] }

@@ -7,9 +7,9 @@ use Rattle.actx_data.specs.declared.trace.TraceEvent.{TraceEvent}
 use Rattle.actx_data.specs.declared.trace.TraceEvent.TheVariants.{Get}
 use Rattle.actx_data.specs.declared.value.Value.{Value}
 use Rattle.actx_data.specs.declared.value.Value.TheVariants as v
-use Rattle.actx_parse.specs.declared.side.Side.TheVariants.{Plain as plain}
-use Rattle.actx_parse.specs.declared.tree.Form.TheVariants.{Note}
-use Rattle.actx_parse.specs.Tree as t
+use Rattle.actx_ast.specs.declared.side.Side.TheVariants.{Plain as plain}
+use Rattle.actx_ast.specs.declared.operators.Form.TheVariants.{Note}
+use Rattle.actx_ast.specs.Tree as t
 use Rattle.actx_top.specs.Agent.{mapped_or}
 use Rattle.actx_top.specs.Machine.{at, takes, step, call_thing}
 use Rattle.actx_top.specs.Prelude.{the_value, the_number, three}
@@ -27,14 +27,14 @@ set_front (x ∷ xs) ys zero a b h = refl
 set_front (x ∷ xs) ys (suc i) a b h = ap (λ zs. x ∷ zs) (set_front xs ys i a b h)
 
 abbrev get_last_part : t.Stmts
-get_last_part = t.next (t.Value (t.Built Note (t.also (t.Text (codes "get")) (three (t.Named the_number) (t.Named the_value) t.Undefined)))) (t.next (t.Return (t.Named the_value)) t.end)
+get_last_part = t.next (t.Value (t.Built Note (t.also (t.Text (codes "get")) (three (t.Named the_number) (t.Named the_value) t.Undefined)))) (t.next (t.Return (t.some_expr (t.Named the_value))) t.end)
 
 abbrev get_call : Store → Value → List Value → List Frame → Move
 get_call r self ws gs = call_thing plain (Some get_thing_of) self ws gs r
 
 -- the frames and the store of the walk
 abbrev get_frames : Store → List Frame → List Frame
-get_frames r gs = ConstFrame the_value t.no_items ∷ ListFrame get_last_part (length r.scopes ∷ 0 ∷ []) ∷ CallFrame r.scope r.receiver ∷ gs
+get_frames r gs = ConstFrame the_value t.no_consts ∷ ListFrame get_last_part (length r.scopes ∷ 0 ∷ []) ∷ CallFrame r.scope r.receiver ∷ gs
 
 abbrev get_store : Store → Value → ℕ → ℕ → Store
 get_store r self k n = record r { scope = length r.scopes ∷ 0 ∷ []; receiver = self; scopes = r.scopes ++ get_cells (Some (v.Thing k)) (Some (v.Num (pos n))) None ∷ [] }

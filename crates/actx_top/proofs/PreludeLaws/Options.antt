@@ -8,8 +8,8 @@ use Rattle.actx_data.specs.Number.{greatest}
 use Rattle.actx_data.specs.declared.trace.TraceEvent.{TraceEvent}
 use Rattle.actx_data.specs.declared.value.Value.{Value}
 use Rattle.actx_data.specs.declared.value.Value.TheVariants as v
-use Rattle.actx_parse.specs.declared.side.Side.TheVariants.{Plain as plain}
-use Rattle.actx_parse.specs.Tree as t
+use Rattle.actx_ast.specs.declared.side.Side.TheVariants.{Plain as plain}
+use Rattle.actx_ast.specs.Tree as t
 use Rattle.actx_top.specs.Machine.{at, takes, step, call_thing, option_of}
 use Rattle.actx_top.specs.Operators.{Gives, Leaves, same}
 use Rattle.actx_top.specs.Prelude.{the_value, the_name, the_options, name_make, two}
@@ -127,10 +127,10 @@ module _ (r : Store) (h : Ready r) (j : ℕ) (name value : Option Value) where
   option_own = get_front (r.scopes ++ option_cells j ∷ []) _ (length r.scopes) _ (get_last r.scopes (option_cells j))
 
 abbrev last_return : t.Stmts
-last_return = t.next (t.Return (t.Call (t.Named name_make) (two (t.Text []) t.Undefined))) t.end
+last_return = t.next (t.Return (t.some_expr (t.Call (t.Named name_make) (two (t.Text []) t.Undefined)))) t.end
 
 abbrev named_rest : t.Stmts
-named_rest = t.next (t.Value (t.Member (t.Named the_name) (codes "length"))) (t.next (t.Return (t.Call (t.Named name_make) (two (t.Named the_name) (t.Named the_value)))) t.end)
+named_rest = t.next (t.Value (t.Member (t.Named the_name) (t.Dot (codes "length")))) (t.next (t.Return (t.some_expr (t.Call (t.Named name_make) (two (t.Named the_name) (t.Named the_value))))) t.end)
 
 -- a name that is given: its length is read
 abbrev named_frames : Store → List Frame → List Frame

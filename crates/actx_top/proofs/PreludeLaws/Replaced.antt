@@ -8,9 +8,9 @@ use Rattle.actx_match.proofs.Pairing.{get_front, get_last, set_last}
 use Rattle.actx_data.specs.declared.trace.TraceEvent.{TraceEvent}
 use Rattle.actx_data.specs.declared.value.Value.{Value}
 use Rattle.actx_data.specs.declared.value.Value.TheVariants as v
-use Rattle.actx_parse.specs.declared.side.Side.TheVariants.{Plain as plain}
-use Rattle.actx_parse.specs.declared.tree.Form.TheVariants.{Freeze}
-use Rattle.actx_parse.specs.Tree as t
+use Rattle.actx_ast.specs.declared.side.Side.TheVariants.{Plain as plain}
+use Rattle.actx_ast.specs.declared.operators.Form.TheVariants.{Freeze}
+use Rattle.actx_ast.specs.Tree as t
 use Rattle.actx_top.specs.Agent.{with_mapped}
 use Rattle.actx_top.specs.Machine.{at, takes, step, call_thing}
 use Rattle.actx_top.specs.Prelude.{the_list, the_number, the_value, key_number, key_value, key_rest, entry_made}
@@ -53,7 +53,7 @@ pub record Withs (w : World) (r : Store) (m : Value) (n : ℕ) (d : Value) (gs :
   pub within : count ≤ limit
 
 abbrev with_rest : t.Stmts
-with_rest = t.next (t.Return (entry_made (t.Named the_number) (t.Named the_value) t.Undefined)) t.end
+with_rest = t.next (t.Return (t.some_expr (entry_made (t.Named the_number) (t.Named the_value) t.Undefined))) t.end
 
 -- the frames and the store of the call for the rest
 abbrev with_frames : Store → ℕ → Value → List Frame → List Frame

@@ -6,8 +6,8 @@ use Rattle.actx_match.specs.Pairing.{Paired}
 use Rattle.actx_match.proofs.Pairing.{paired_set, get_set_same, get_set_other}
 use Rattle.actx_data.specs.declared.value.Value.{Value}
 use Rattle.actx_data.specs.declared.value.Value.TheVariants as v
-use Rattle.actx_parse.specs.Lexical.{same_text}
-use Rattle.actx_parse.specs.Tree.{Items, Stmts}
+use Rattle.actx_top.specs.Texts.{same_text}
+use Rattle.actx_ast.specs.Tree.{ConstItems, Stmts}
 use Rattle.actx_top.specs.Low.{p_}
 use Rattle.actx_top.specs.Prelude.{name_variable}
 use Rattle.actx_top.specs.State.{Cell, cell_of, or_else, option_or, cells_at, find, given_cell, set_cell, set_in, with_cell, with_items, with_names, with_params}
@@ -93,7 +93,7 @@ module _ (w : World) where
       let c : Cell = record { name = p_ x; value = b; constant = constant } in
       subst (CellsAre w (with_cell (record { name = x; value = a; constant = constant }) cs)) (sym (if_false (same_text (p_ x) d.name) (record { name = d.name; value = b; constant = constant } ∷ ds') (d ∷ with_cell c ds') (own_other x d own))) (own_cell d own (with_cell_is x constant a b cs ds' h t))
 
-  with_items_is : (is js : Items) (cs ds : List Cell) → ItemsAre is js → CellsAre w cs ds → CellsAre w (with_items is cs) (with_items js ds)
+  with_items_is : (is js : ConstItems) (cs ds : List Cell) → ItemsAre is js → CellsAre w cs ds → CellsAre w (with_items is cs) (with_items js ds)
   with_items_is is js cs ds no_items_are h = h
   with_items_is is js cs ds (more_items x e t) h = with_items_is _ _ _ _ t (with_cell_is x true None None cs ds none_is h)
 

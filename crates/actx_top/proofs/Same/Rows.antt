@@ -1,6 +1,7 @@
 -- The rows: from related states both sides make moves that lead to related states.
-use Rattle.std.proofs.Common.{◌≡◌, ℕ, suc, ◌*◌, ◌≤◌, true, List, [], ◌∷◌, length, Option, Some, refl, sym, ap, subst, arith}
-use Rattle.std.specs.Prelude.{pos, nat_le}
+use Rattle.std.proofs.Common.{◌≡◌, ℕ, suc, ◌*◌, ◌≤◌, Bool, true, false, List, [], ◌∷◌, length, Option, Some, refl, sym, ap, subst, arith}
+use Rattle.std.proofs.Math.Dec.{leb-zero}
+use Rattle.std.specs.Prelude.{pos, nat_le, ◌&&◌, if◌then◌else◌}
 use Rattle.actx_match.specs.Runs.{run}
 use Rattle.actx_data.specs.Number.{greatest}
 use Rattle.actx_data.specs.declared.end.End.TheVariants.{Left}
@@ -8,16 +9,17 @@ use Rattle.actx_data.specs.declared.shown.ErrorName.TheVariants.{ReferenceError}
 use Rattle.actx_data.specs.declared.trace.TraceEvent.{TraceEvent}
 use Rattle.actx_data.specs.declared.value.Value.{Value}
 use Rattle.actx_data.specs.declared.value.Value.TheVariants as v
-use Rattle.actx_parse.specs.declared.side.Side.TheVariants.{Source}
-use Rattle.actx_parse.specs.declared.side.Side.TheVariants as side
-use Rattle.actx_parse.specs.declared.tree.FunctionKind.TheVariants.{Arrow as arrow_kind}
-use Rattle.actx_parse.specs.declared.tree.Form.TheVariants.{NewVariable}
-use Rattle.actx_parse.specs.Grammar.{count}
-use Rattle.actx_parse.specs.Tree as t
-use Rattle.actx_parse.specs.Tree.{Expr, Exprs, Properties, Items, Stmt, Stmts}
+use Rattle.actx_ast.specs.declared.side.Side.TheVariants.{Source}
+use Rattle.actx_ast.specs.declared.side.Side.TheVariants as side
+use Rattle.actx_ast.specs.declared.operators.FunctionKind.TheVariants.{Arrow as arrow_kind}
+use Rattle.actx_ast.specs.declared.operators.Form.TheVariants.{Log, NewVariable}
+use Rattle.actx_ast.specs.Grammar.{count}
+use Rattle.actx_ast.specs.ParserOperands.{suits}
+use Rattle.actx_ast.specs.Tree as t
+use Rattle.actx_ast.specs.Tree.{Expr, Exprs, Properties, ConstItems, Stmt, Stmts}
 use Rattle.actx_top.specs.Prelude.{name_variable}
-use Rattle.actx_top.specs.Machine.{read_cell, call_thing, call, eval_parts, keys_of, values_of, eval, begin_item, exec, exec_list, exec_body, next_statement, takes, step}
-use Rattle.actx_top.specs.State.{Normal, Cell, Closure, Eval, Given, Done, CallOf, BuiltIn, MakeObject, Frame, Pending, Store, Move, Goes, with_names}
+use Rattle.actx_top.specs.Machine.{read_cell, call_thing, call, eval_parts, keys_of, are_fixed, values_of, eval, begin_item, exec, exec_list, exec_body, next_statement, takes, step}
+use Rattle.actx_top.specs.State.{Normal, Cell, Closure, Eval, Given, Done, CallOf, BuiltIn, MakeObject, Frame, Pending, Store, Move, Goes, Stops, with_names}
 use Rattle.actx_top.specs.Related.{World, ExprIs, num_expr, text_expr, undefined_expr, named_expr, binary_expr, member_expr, call_expr, arrow_expr, log_expr, variable_expr, options_expr, ExprsAre, no_exprs, more_exprs, PropertiesAre, no_properties_are, more_properties, ItemsAre, no_items_are, more_items, StmtIs, const_stmt, value_stmt, return_stmt, return_nothing_stmt, StmtsAre, no_stmts, more_stmts, ValueIs, undefined_is, num_is, text_is, ValuesAre, no_values, none_is, some_is, normal_is, return_is, ChainIs, no_cells, closure_is, variable_thing_of, operator_op, log_op, get_op, call_op, StoreIs, ForValue, ForCompletion, FramesAre, pending_is, base_is, options_are, const_is, value_frame_is, return_frame_is, list_is, fits_any, eval_is, eval_options, exec_is, given_is, done_is, here, Related, MoveIs, goes_is, stops_is}
 use Rattle.actx_top.specs.Laws.{Laws}
 use Rattle.actx_top.proofs.Same.Growth.{grows_thing, grows_scope, thing_world, scope_world, value_later, chain_later, frames_later, later_thing, later_scope}
@@ -39,9 +41,28 @@ reached n m m' j = record { count = j.count; kept = j.kept; within = let within 
 pub reached_by : (n : ℕ) (m m' : Move) → MoveIs m m' → Reaches n m m'
 reached_by n m m' h = reached n m m' (one n m m' h)
 
+-- a form with any number of parts
+log_suits : (n : ℕ) → suits Log n ≡ true
+log_suits n = ap (λ b. b && true) (leb-zero n)
+
+either_way : (b d : Bool) (n : ℕ) (m m' : Move) → b ≡ true → d ≡ true → Reaches n m m' → Reaches n (if b then m else Stops Left) (if d then m' else Stops Left)
+either_way true true n m m' p q h = h
+either_way false d n m m' p q h = absurd (cc)
+either_way true false n m m' p q h = absurd (cc)
+
 keys_same : (ps qs : Properties) → PropertiesAre ps qs → keys_of qs ≡ keys_of ps
 keys_same ps qs no_properties_are = refl
 keys_same ps qs (more_properties key e t) = ap (λ ks. key ∷ ks) (keys_same _ _ t)
+
+fixed_same : (ps qs : Properties) → PropertiesAre ps qs → are_fixed qs ≡ are_fixed ps
+fixed_same ps qs no_properties_are = refl
+fixed_same ps qs (more_properties key e t) = fixed_same _ _ t
+
+or_left : (b d : Bool) (m n : Move) → d ≡ b → MoveIs m n → MoveIs (if b then m else Stops Left) (if d then n else Stops Left)
+or_left true true m n e h = h
+or_left false false m n e h = stops_is Left
+or_left true false m n e h = absurd (cc)
+or_left false true m n e h = absurd (cc)
 
 values_are : (ps qs : Properties) → PropertiesAre ps qs → ExprsAre (values_of ps) (values_of qs)
 values_are ps qs no_properties_are = no_exprs
@@ -71,7 +92,7 @@ module _ (laws : Laws) (w : World) where
   callee_rule e d es ds fs gs s r l undefined_expr m f c o st = goes_is w (eval_is undefined_expr (pending_is (call_op undefined_is) (omega (arith, l)) no_values m f)) (here c o) st
   callee_rule e d es ds fs gs s r l (named_expr x) m f c o st = goes_is w (eval_is (named_expr x) (pending_is (call_op undefined_is) (omega (arith, l)) no_values m f)) (here c o) st
   callee_rule e d es ds fs gs s r l (binary_expr op a b) m f c o st = goes_is w (eval_is (binary_expr op a b) (pending_is (call_op undefined_is) (omega (arith, l)) no_values m f)) (here c o) st
-  callee_rule e d es ds fs gs s r l (member_expr key x) m f c o st = goes_is w (eval_is x (base_is key l m f)) (here c o) st
+  callee_rule e d es ds fs gs s r l (member_expr key k x) m f c o st = goes_is w (eval_is x (base_is key l m f)) (here c o) st
   callee_rule e d es ds fs gs s r l (call_expr q x y) m f c o st = goes_is w (eval_is (call_expr q x y) (pending_is (call_op undefined_is) (omega (arith, l)) no_values m f)) (here c o) st
   callee_rule e d es ds fs gs s r l (arrow_expr x y) m f c o st = goes_is w (eval_is (arrow_expr x y) (pending_is (call_op undefined_is) (omega (arith, l)) no_values m f)) (here c o) st
   callee_rule e d es ds fs gs s r l (log_expr x) m f c o st = goes_is w (eval_is (log_expr x) (pending_is (call_op undefined_is) (omega (arith, l)) no_values m f)) (here c o) st
@@ -87,7 +108,7 @@ module _ (laws : Laws) (w : World) where
   eval_rule e d fs gs s r undefined_expr f c o st = reached_by (length s.mapping) _ _ (goes_is w (given_is undefined_is f) (here c o) st)
   eval_rule e d fs gs s r (named_expr x) f c o st = reached_by (length s.mapping) _ _ (cell_rule _ _ fs gs s r (find_is w s.scopes r.scopes st.scopes x s.scope r.scope c) f c o st)
   eval_rule e d fs gs s r (binary_expr op a b) f c o st = reached_by (length s.mapping) _ _ (goes_is w (eval_is a (pending_is (operator_op op) tt no_values (more_exprs b no_exprs) f)) (here c o) st)
-  eval_rule e d fs gs s r (member_expr key x) f c o st = reached_by (length s.mapping) _ _ (goes_is w (eval_is x (pending_is (get_op key) tt no_values no_exprs f)) (here c o) st)
+  eval_rule e d fs gs s r (member_expr key k x) f c o st = reached_by (length s.mapping) _ _ (goes_is w (eval_is x (pending_is (get_op key) tt no_values no_exprs f)) (here c o) st)
   eval_rule e d fs gs s r (call_expr l x m) f c o st = reached_by (length s.mapping) _ _ (callee_rule _ _ _ _ fs gs s r l x m f c o st)
   eval_rule e d fs gs s r (arrow_expr {xs = xs} {ys = ys} {ss = ss} {ts = ts} n m) f c o st =
       let w' = thing_world w (length r.heap) true in
@@ -97,17 +118,20 @@ module _ (laws : Laws) (w : World) where
       reached_by (length s.mapping) _ _ (goes_is w' (given_is (new_value w s r st) (frames_later (later_thing w r.heap r.scopes b true) f))
       (here (chain_later w w' grows _ _ c) (value_later w w' grows _ _ o))
       (store_thing w s r st a b true (closure_is n m c o) (λ ps e. absurd (cc))))
-  eval_rule e d fs gs s r (log_expr m) f c o st = reached (length s.mapping) _ _ (parts_rule laws w _ _ [] [] _ _ fs gs s r log_op tt no_values m f c o st)
+  eval_rule e d fs gs s r (log_expr {es = es} {ds = ds} m) f c o st = either_way (suits Log (count es)) (suits Log (count ds)) (length s.mapping) _ _ (log_suits (count es)) (log_suits (count ds)) (reached (length s.mapping) _ _ (parts_rule laws w _ _ [] [] _ _ fs gs s r log_op tt no_values m f c o st))
   eval_rule e d fs gs s r variable_expr f c o st = looked_up (length s.mapping) _ t.none gs s r c st (variable_called (length s.mapping) _ [] gs s r st (alone laws w (Given v.Undefined) fs gs s r st f (here c o)))
   eval_rule e d fs gs s r (options_expr {ps = ps} {qs = qs} m) f c o st =
       looked_up (length s.mapping) _ (t.also (t.Object qs) t.none) gs s r c st (one (length s.mapping) _ _ (goes_is w (eval_options m f) (here c o) st))
 
   -- the options of a variable
-  pub options_rule : (ps qs : Properties) (fs gs : List Frame) (s r : Store) → PropertiesAre ps qs → FramesAre w r.heap r.scopes ForValue fs gs → ChainIs w s.scope r.scope → ValueIs w s.receiver r.receiver → StoreIs w s r → MoveIs (eval Source (t.Object ps) (Pending (BuiltIn NewVariable) [] t.none ∷ fs) s) (eval side.Plain (t.Object qs) (Pending (CallOf v.Undefined) (v.Thing 9 ∷ []) t.none ∷ gs) r)
-  options_rule ps qs fs gs s r no_properties_are f c o st = object_made w [] [] [] fs gs s r no_values f c o st
-  options_rule ps qs fs gs s r (more_properties key {e = e} {d = d} {ps = ps'} {qs = qs'} x m) f c o st =
-      subst (λ keys. MoveIs (eval Source (t.Object (t.property key e ps')) (Pending (BuiltIn NewVariable) [] t.none ∷ fs) s) (Goes (Eval d) (Pending (MakeObject (key ∷ keys)) [] (values_of qs') ∷ Pending (CallOf v.Undefined) (v.Thing 9 ∷ []) t.none ∷ gs) r)) (sym (keys_same ps' qs' m))
+  options_begun : (ps qs : Properties) (fs gs : List Frame) (s r : Store) → PropertiesAre ps qs → FramesAre w r.heap r.scopes ForValue fs gs → ChainIs w s.scope r.scope → ValueIs w s.receiver r.receiver → StoreIs w s r → MoveIs (eval_parts Source (MakeObject (keys_of ps)) [] (values_of ps) (Pending (BuiltIn NewVariable) [] t.none ∷ fs) s) (eval_parts side.Plain (MakeObject (keys_of qs)) [] (values_of qs) (Pending (CallOf v.Undefined) (v.Thing 9 ∷ []) t.none ∷ gs) r)
+  options_begun ps qs fs gs s r no_properties_are f c o st = object_made w [] [] [] fs gs s r no_values f c o st
+  options_begun ps qs fs gs s r (more_properties key {e = e} {d = d} {ps = ps'} {qs = qs'} x m) f c o st =
+      subst (λ keys. MoveIs (Goes (Eval e) (Pending (MakeObject (key ∷ keys_of ps')) [] (values_of ps') ∷ Pending (BuiltIn NewVariable) [] t.none ∷ fs) s) (Goes (Eval d) (Pending (MakeObject (key ∷ keys)) [] (values_of qs') ∷ Pending (CallOf v.Undefined) (v.Thing 9 ∷ []) t.none ∷ gs) r)) (sym (keys_same ps' qs' m))
       (goes_is w (eval_is x (options_are (key ∷ keys_of ps') no_values (values_are ps' qs' m) f)) (here c o) st)
+
+  pub options_rule : (ps qs : Properties) (fs gs : List Frame) (s r : Store) → PropertiesAre ps qs → FramesAre w r.heap r.scopes ForValue fs gs → ChainIs w s.scope r.scope → ValueIs w s.receiver r.receiver → StoreIs w s r → MoveIs (eval Source (t.Object ps) (Pending (BuiltIn NewVariable) [] t.none ∷ fs) s) (eval side.Plain (t.Object qs) (Pending (CallOf v.Undefined) (v.Thing 9 ∷ []) t.none ∷ gs) r)
+  options_rule ps qs fs gs s r m f c o st = or_left (are_fixed ps) (are_fixed qs) _ _ (fixed_same ps qs m) (options_begun ps qs fs gs s r m f c o st)
 
   pub object_parts : (keys : List (List ℕ)) (xs ys : List Value) (es ds : Exprs) (fs gs : List Frame) (s r : Store) → ValuesAre w xs ys → ExprsAre es ds → FramesAre w r.heap r.scopes ForValue fs gs → ChainIs w s.scope r.scope → ValueIs w s.receiver r.receiver → StoreIs w s r → MoveIs (eval_parts Source (MakeObject keys) xs es (Pending (BuiltIn NewVariable) [] t.none ∷ fs) s) (eval_parts side.Plain (MakeObject keys) ys ds (Pending (CallOf v.Undefined) (v.Thing 9 ∷ []) t.none ∷ gs) r)
   object_parts keys xs ys es ds fs gs s r h no_exprs f c o st = object_made w keys xs ys fs gs s r h f c o st
@@ -117,7 +141,7 @@ module _ (laws : Laws) (w : World) where
   pub normal_rule : (fs gs : List Frame) (s r : Store) → FramesAre w r.heap r.scopes ForCompletion fs gs → ChainIs w s.scope r.scope → ValueIs w s.receiver r.receiver → StoreIs w s r → MoveIs (Goes (Done Normal) fs s) (Goes (Done Normal) gs r)
   normal_rule fs gs s r f c o st = goes_is w (done_is ForCompletion (fits_any Normal) normal_is f) (here c o) st
 
-  pub item_rule : (is js : Items) (fs gs : List Frame) (s r : Store) → ItemsAre is js → FramesAre w r.heap r.scopes ForCompletion fs gs → ChainIs w s.scope r.scope → ValueIs w s.receiver r.receiver → StoreIs w s r → MoveIs (begin_item is fs s) (begin_item js gs r)
+  pub item_rule : (is js : ConstItems) (fs gs : List Frame) (s r : Store) → ItemsAre is js → FramesAre w r.heap r.scopes ForCompletion fs gs → ChainIs w s.scope r.scope → ValueIs w s.receiver r.receiver → StoreIs w s r → MoveIs (begin_item is fs s) (begin_item js gs r)
   item_rule is js fs gs s r no_items_are f c o st = normal_rule fs gs s r f c o st
   item_rule is js fs gs s r (more_items x e m) f c o st = goes_is w (eval_is e (const_is x m f)) (here c o) st
 

@@ -10,10 +10,10 @@ use Rattle.actx_data.specs.declared.shown.ErrorName.{ErrorName}
 use Rattle.actx_data.specs.declared.shown.ErrorName.TheVariants.{Error, TypeError, RangeError, ReferenceError}
 use Rattle.actx_data.specs.declared.value.Value.{Value}
 use Rattle.actx_data.specs.declared.value.Value.TheVariants as v
-use Rattle.actx_parse.specs.Lexical.{same_text}
-use Rattle.actx_parse.specs.Static.{longest_text}
-use Rattle.actx_parse.specs.declared.tree.BinaryOp.{BinaryOp}
-use Rattle.actx_parse.specs.declared.tree.BinaryOp.TheVariants as o
+use Rattle.actx_top.specs.Texts.{same_text}
+use Rattle.actx_top.specs.Taken.{longest_text}
+use Rattle.actx_ast.specs.declared.operators.BinaryOp.{BinaryOp}
+use Rattle.actx_ast.specs.declared.operators.BinaryOp.TheVariants as o
 use Rattle.actx_top.specs.Operators.{Answer, Gives, Throws, Leaves, number_or_leaves, text_or_leaves, truth_text, primitive_text, join_before, plus, minus, times, same, binary}
 use Rattle.actx_top.specs.Printing.{thing_text, printed, printed_more, line_of, is_format, is_line}
 use Rattle.actx_top.specs.Properties.{prop_of, own_or, fixed_or, error_text, failure_props, get_thing, number_of_units, get, place_in, is_in, show_thing, show, more_shown}
@@ -249,6 +249,7 @@ module _ (w : World) (heap heap' : List Thing) (pairs : Paired (ThingIs w) w.thi
   binary_is o.Sub a b c d h k = minus_is w a b c d h k
   binary_is o.Mul a b c d h k = times_is w a b c d h k
   binary_is o.Same a b c d h k = let e = same_is a b c d h k in subst (λ x. AnswerIs w (binary o.Same a b) (Gives (v.Truth x))) (sym e) (gives_is (truth_is _))
+  binary_is _ a b c d h k = leaves_is
 
   -- SHOWING
   place_same : (n k j : ℕ) → slice_get w.things k ≡ Some j → (ks js : List ℕ) → ShownAre w ks js → place_in n j js ≡ place_in n k ks

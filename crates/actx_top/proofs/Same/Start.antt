@@ -8,11 +8,11 @@ use Rattle.actx_match.proofs.Pairing.{paired_none, paired_more, paired_extra}
 use Rattle.actx_data.specs.declared.event.Event.{Event}
 use Rattle.actx_data.specs.declared.trace.TraceEvent.{TraceEvent}
 use Rattle.actx_data.specs.declared.value.Value.TheVariants as v
-use Rattle.actx_parse.specs.declared.side.Side.TheVariants.{Source}
-use Rattle.actx_parse.specs.declared.side.Side.TheVariants as side
-use Rattle.actx_parse.specs.Lexical.{same_text}
-use Rattle.actx_parse.specs.Tree as t
-use Rattle.actx_parse.specs.Tree.{Items, Stmt, Stmts}
+use Rattle.actx_ast.specs.declared.side.Side.TheVariants.{Source}
+use Rattle.actx_ast.specs.declared.side.Side.TheVariants as side
+use Rattle.actx_top.specs.Texts.{same_text}
+use Rattle.actx_ast.specs.Tree as t
+use Rattle.actx_ast.specs.Tree.{ConstItems, Stmt, Stmts}
 use Rattle.actx_top.specs.Low.{p_, followed_by}
 use Rattle.actx_top.specs.Prelude.{name_states, name_now, name_find, name_with, name_get, name_run, name_make, name_variable, prelude}
 use Rattle.actx_top.specs.State.{Normal, Cell, Prop, VariableGet, VariableRun, WeakMapGet, WeakMapSet, Thing, Plain, Native, Weak, Task, Exec, Done, Frame, ListFrame, Store, State, Move, Goes, Writes, Stops, with_cell, unset, with_items, with_names}
@@ -49,7 +49,7 @@ module _ (d : Cell) (other : (x : List ℕ) → same_text (p_ x) d.name ≡ fals
   cell_behind : (x : List ℕ) (cs : List Cell) → with_cell (unset (p_ x)) (d ∷ cs) ≡ d ∷ with_cell (unset (p_ x)) cs
   cell_behind x cs = ap (λ b. if b then record { name = d.name; value = (unset (p_ x)).value; constant = true } ∷ cs else d ∷ with_cell (unset (p_ x)) cs) (other x)
 
-  items_behind : (is js : Items) (cs : List Cell) → ItemsAre is js → with_items js (d ∷ cs) ≡ d ∷ with_items js cs
+  items_behind : (is js : ConstItems) (cs : List Cell) → ItemsAre is js → with_items js (d ∷ cs) ≡ d ∷ with_items js cs
   items_behind is js cs no_items_are = refl
   items_behind is js cs (more_items x {js = js'} e m) = ap (with_items js') (cell_behind x cs) ∙ items_behind _ js' (with_cell (unset (p_ x)) cs) m
 
@@ -93,7 +93,7 @@ ready_store cells events = record no_store { scope = 0 ∷ []; scopes = set_befo
 
 abbrev first_of : Stmts → Stmt
 first_of (t.next st ss) = st
-first_of t.end = t.ReturnNothing
+first_of t.end = t.Empty
 
 abbrev rest_of : Stmts → Stmts
 rest_of (t.next st ss) = ss

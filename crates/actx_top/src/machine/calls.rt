@@ -3,8 +3,8 @@
 ghost use Rattle.std.specs.Prelude.{◌≡◌, [], ◌∷◌, IfOk, OnOk, slice_get, option_map};
 ghost use Rattle.std.specs.Option.{option_copied};
 ghost use Rattle.actx_data.specs.declared.end.End.TheVariants.{Going, Left};
-ghost use Rattle.actx_parse.specs.declared.side.Side.TheVariants.{Plain};
-ghost use Rattle.actx_parse.specs.View.{stmts_view};
+ghost use Rattle.actx_ast.specs.declared.side.Side.TheVariants.{Plain};
+ghost use Rattle.actx_ast.specs.View.{stmts_view};
 ghost use Rattle.actx_top.specs.Chains.{chain_of};
 ghost use Rattle.actx_top.specs.State.{Goes, Given, ExecBody, CallFrame, with_call, with_names, with_params};
 ghost use Rattle.actx_top.specs.Properties.{entry_at};
@@ -22,9 +22,10 @@ use crate::operators::Answer;
 use crate::scope::Scope;
 use crate::sound::Sound;
 use crate::thing::{Method, Thing};
+use actx_ast::name::Name;
+use actx_ast::operators::FunctionKind;
+use actx_ast::tree::Function;
 use actx_data::{End, ErrorName, NoMemory, Twin, Value};
-use actx_parse::name::Name;
-use actx_parse::tree::{Function, FunctionKind};
 use std::alloc::Global;
 use std::mem;
 
@@ -104,7 +105,7 @@ fn body_receiver(kind: FunctionKind, kept: Sound, given: Sound) -> Sound
 {
     match kind {
         FunctionKind::Arrow => kept,
-        FunctionKind::Normal => given,
+        _ => given,
     }
 }
 

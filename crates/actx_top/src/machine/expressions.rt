@@ -2,14 +2,14 @@
 
 ghost use Rattle.std.specs.Prelude.{◌≡◌, IfOk, OnOk, Some, None, option_map, if◌then◌else◌, ◌&&◌};
 ghost use Rattle.actx_data.specs.declared.end.End.TheVariants.{Going, Left};
-ghost use Rattle.actx_parse.specs.declared.side.Side.TheVariants.{Plain};
-ghost use Rattle.actx_parse.specs.Grammar.{count};
-ghost use Rattle.actx_parse.specs.Parser.{suits};
-ghost use Rattle.actx_parse.specs.View.{expr_view, exprs_view, function_view};
+ghost use Rattle.actx_ast.specs.declared.side.Side.TheVariants.{Plain};
+ghost use Rattle.actx_ast.specs.Grammar.{count};
+ghost use Rattle.actx_ast.specs.ParserOperands.{suits};
+ghost use Rattle.actx_ast.specs.View.{expr_view, exprs_view, function_view, prop_key_view, properties_view, stmts_view};
 ghost use Rattle.actx_top.specs.Cells.{found_cell};
 ghost use Rattle.actx_top.specs.Chains.{chain_of};
-ghost use Rattle.actx_top.specs.State.{Stops, Goes, Given, find, cell_of, cells_at};
-ghost use Rattle.actx_top.specs.Machine.{takes, throws, answered, makes, eval_number, read_cell, kept_receiver, eval_call, eval_form, has_form, eval};
+ghost use Rattle.actx_top.specs.State.{Closure, Stops, Goes, Given, find, cell_of, cells_at};
+ghost use Rattle.actx_top.specs.Machine.{takes, throws, answered, makes, eval_number, read_cell, kept_receiver, eval_call, eval_form, eval_function, eval_object, function_rule, has_form, is_fixed, are_fixed, eval};
 ghost use Rattle.actx_top.specs.MachineView.{state_of, frames_in, store_in, form_of};
 ghost use Rattle.actx_top.specs.ThingView.{thing_of};
 ghost use Rattle.actx_top.specs.View.{reading_of, answer_view};
@@ -20,9 +20,10 @@ use crate::operators::Answer;
 use crate::scope::{Reading, Scope};
 use crate::sound::Sound;
 use crate::thing::Thing;
+use actx_ast::name::Name;
+use actx_ast::operators::{Form, FunctionKind};
+use actx_ast::tree::{Expr, Function, Key, PropKey, Property};
 use actx_data::{End, ErrorName, NoMemory, Twin, Units};
-use actx_parse::name::Name;
-use actx_parse::tree::{Expr, Form, Function, FunctionKind};
 use std::alloc::Global;
 
 /// The greatest number of the profile.
@@ -61,13 +62,13 @@ fn kept_receiver(alloc: Global, kind: FunctionKind, receiver: &Sound) -> Result<
 {
     match kind {
         FunctionKind::Arrow => receiver.copy(alloc),
-        FunctionKind::Normal => Ok(Sound::undefined()),
+        _ => Ok(Sound::undefined()),
     }
 }
 
 /// How many parts there are.
 #[tactic(auto, using(crate::proofs::Forms::count_is))]
-fn count(parts: &[Expr]) -> usize
+pub fn count(parts: &[Expr]) -> usize
     ensures { result ≡ count (exprs_view parts.now) }
 {
     parts.len()
@@ -79,16 +80,34 @@ fn plain_form(form: Form, count: usize) -> Option<PlainForm>
 {
     match form {
         Form::Log => Some(PlainForm::Log),
-        Form::NewVariable => None,
         Form::NewWeakMap if count == 0 => Some(PlainForm::NewWeakMap),
-        Form::NewWeakMap => None,
         Form::Freeze if count == 1 => Some(PlainForm::Freeze),
-        Form::Freeze => None,
         Form::CallWith if count >= 1 => Some(PlainForm::CallWith),
-        Form::CallWith => None,
         Form::Note if count == 4 => Some(PlainForm::Note),
-        Form::Note => None,
+        _ => None,
     }
+}
+
+/// Whether a key is there before the run.
+fn is_fixed(key: &PropKey) -> bool
+    ensures { result ≡ is_fixed (prop_key_view key.now) }
+{
+    match key {
+        PropKey::Fixed(_) => true,
+        PropKey::Computed(_) => false,
+    }
+}
+
+/// Whether all keys of a literal are there before the run.
+fn are_fixed(properties: &[Property]) -> bool
+    ensures { result ≡ are_fixed (properties_view properties.now) }
+{
+    for property in properties {
+        if !is_fixed(&property.key) {
+            return false;
+        }
+    }
+    true
 }
 
 impl<'a> Target<'a> {
@@ -171,13 +190,55 @@ impl<'a> Target<'a> {
     }
 
     /// A function keeps the open scopes, and an arrow the receiver.
-    fn eval_function(&mut self, function: &'a Function) -> Result<(), NoMemory>
+    fn make_function(&mut self, function: &'a Function) -> Result<(), NoMemory>
         requires { self.old.end ≡ End.Going }
-        ensures { OnOk result (state_of self.new ≡ takes (eval Plain (function_view function.now) (frames_in self.old) (store_in self.old)) self.old.trace.items) }
+        ensures { OnOk result (state_of self.new ≡ takes (makes (Closure function.now.kind function.now.params.items (stmts_view function.now.body.items) (store_in self.old).scope (kept_receiver function.now.kind (store_in self.old).receiver)) (frames_in self.old) (store_in self.old)) self.old.trace.items) }
     {
         let kept = kept_receiver(self.alloc, function.kind, &self.receiver)?;
         let scope = again(&self.scope)?;
         self.makes(Thing::Closure(function, scope, kept))
+    }
+
+    /// A function without a name: a generator and what is async are outside the profile.
+    fn function_rule(&mut self, function: &'a Function) -> Result<(), NoMemory>
+        requires { self.old.end ≡ End.Going }
+        ensures { OnOk result (state_of self.new ≡ takes (function_rule function.now.kind function.now.params.items (stmts_view function.now.body.items) (frames_in self.old) (store_in self.old)) self.old.trace.items) }
+    {
+        match function.kind {
+            FunctionKind::Normal => self.make_function(function),
+            FunctionKind::Arrow => self.make_function(function),
+            _ => {
+                self.leaves();
+                Ok(())
+            }
+        }
+    }
+
+    /// A function; one with a name of its own is outside the profile.
+    fn eval_function(&mut self, function: &'a Function) -> Result<(), NoMemory>
+        requires { self.old.end ≡ End.Going }
+        ensures { OnOk result (state_of self.new ≡ takes (eval_function (function_view function.now) (frames_in self.old) (store_in self.old)) self.old.trace.items) }
+    {
+        match &function.name {
+            None => self.function_rule(function),
+            Some(_) => {
+                self.leaves();
+                Ok(())
+            }
+        }
+    }
+
+    /// An object literal; keys that are computed are outside the profile.
+    fn eval_object(&mut self, properties: &'a [Property]) -> Result<(), NoMemory>
+        requires { self.old.end ≡ End.Going }
+        ensures { OnOk result (state_of self.new ≡ takes (eval_object Plain (properties_view properties.now) (frames_in self.old) (store_in self.old)) self.old.trace.items) }
+    {
+        if are_fixed(properties) {
+            self.begin_parts(Op::MakeObject(properties), Parts::Values(properties))
+        } else {
+            self.leaves();
+            Ok(())
+        }
     }
 
     /// A call: of a property it has the base first, and then reads the property.
@@ -185,7 +246,7 @@ impl<'a> Target<'a> {
         requires { self.old.end ≡ End.Going }
         ensures { OnOk result (state_of self.new ≡ takes (eval_call Plain (expr_view callee.now) (exprs_view args.now) (frames_in self.old) (store_in self.old)) self.old.trace.items) }
     {
-        if let Expr::Member(base, key) = callee {
+        if let Expr::Member(base, Key::Dot(key)) = callee {
             self.frames.push(Frame::Base(key, args))?;
             self.task = Task::Eval(base);
             return Ok(());
@@ -241,16 +302,21 @@ impl<'a> Target<'a> {
             Expr::Binary(op, left, right) => {
                 self.begin_parts(Op::Operator(*op), Parts::Both(left, right))
             }
-            Expr::Member(base, key) => self.begin_parts(Op::GetKey(key), Parts::Right(base)),
-            Expr::SetMember(base, key, value) => {
+            Expr::Member(base, Key::Dot(key)) => self.begin_parts(
+                Op::GetKey(key),
+                Parts::Right(base),
+            ),
+            Expr::SetMember(base, Key::Dot(key), value) => {
                 self.begin_parts(Op::SetKey(key), Parts::Both(base, value))
             }
             Expr::Call(callee, args) => self.eval_call(callee, args),
-            Expr::Object(properties) => {
-                self.begin_parts(Op::MakeObject(properties), Parts::Values(properties))
-            }
+            Expr::Object(properties) => self.eval_object(properties),
             Expr::Function(function) => self.eval_function(function),
             Expr::Form(form, parts) => self.eval_form(*form, parts),
+            _ => {
+                self.leaves();
+                Ok(())
+            }
         }
     }
 }

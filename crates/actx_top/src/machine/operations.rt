@@ -2,11 +2,11 @@
 
 ghost use Rattle.std.specs.Prelude.{◌≡◌, [], ◌∷◌, IfOk, OnOk};
 ghost use Rattle.actx_data.specs.declared.end.End.TheVariants.{Going, Left};
-ghost use Rattle.actx_parse.specs.declared.side.Side.TheVariants.{Plain};
-ghost use Rattle.actx_parse.specs.View.{expr_view, properties_view};
+ghost use Rattle.actx_ast.specs.declared.side.Side.TheVariants.{Plain};
+ghost use Rattle.actx_ast.specs.View.{expr_view, prop_key_view, properties_view};
 ghost use Rattle.actx_top.specs.State.{Goes, Eval, Pending};
-ghost use Rattle.actx_top.specs.Properties.{with_props, any_proto};
-ghost use Rattle.actx_top.specs.Machine.{takes, operator_rule, get_rule, set_rule, put_done, object_rule, call_rule, rule, eval_parts, keys_of};
+ghost use Rattle.actx_top.specs.Properties.{with_props, any_proto, is_proto};
+ghost use Rattle.actx_top.specs.Machine.{takes, operator_rule, get_rule, set_rule, put_done, object_rule, call_rule, rule, eval_parts, keys_of, units_of};
 ghost use Rattle.actx_top.specs.MachineView.{state_of, frames_in, store_in, op_of, parts_of};
 ghost use Rattle.actx_top.specs.View.{put_view};
 
@@ -18,17 +18,38 @@ use crate::sound::Sound;
 use crate::table::Table;
 use crate::thing::Thing;
 use crate::word::is_text;
-use actx_data::{End, ErrorName, NoMemory, Twin};
-use actx_parse::name::Name;
-use actx_parse::tree::{BinaryOp, Expr, Property};
+use actx_ast::name::Name;
+use actx_ast::operators::BinaryOp;
+use actx_ast::tree::{Expr, PropKey, Property};
+use actx_data::{End, ErrorName, NoMemory, Twin, Units};
 use std::alloc::Global;
 
 /// Whether a key names an object's prototype.
+fn is_proto(key: &PropKey) -> bool
+    ensures { result ≡ is_proto (units_of (prop_key_view key.now)) }
+{
+    match key {
+        PropKey::Fixed(units) => is_text(units, b"__proto__"),
+        PropKey::Computed(_) => false,
+    }
+}
+
+/// A key of a literal as a table has it; one that is computed has no units before the run.
+fn key_of(alloc: Global, key: &PropKey) -> Result<Key, NoMemory>
+    ensures { IfOk result (λ k. k ≡ units_of (prop_key_view key.now)) }
+{
+    match key {
+        PropKey::Fixed(units) => Key::of_units(alloc, units),
+        PropKey::Computed(_) => Key::of_units(alloc, &Units::from_vec(Vec::new(alloc))),
+    }
+}
+
+/// Whether a key among these names an object's prototype.
 fn any_proto(properties: &[Property]) -> bool
     ensures { result ≡ any_proto (keys_of (properties_view properties.now)) }
 {
     for property in properties {
-        if is_text(&property.key, b"__proto__") {
+        if is_proto(&property.key) {
             return true;
         }
     }
@@ -44,7 +65,7 @@ fn table_of(alloc: Global, properties: &[Property], values: &[Sound]) -> Result<
         let Some(value) = values.get(i) else {
             return Ok(table);
         };
-        let key = Key::of_units(alloc, &property.key)?;
+        let key = key_of(alloc, &property.key)?;
         table.put(key, value.copy(alloc)?)?;
     }
     Ok(table)

@@ -2,10 +2,10 @@
 
 ghost use Rattle.std.specs.Prelude.{◌≡◌, [], IfOk, OnOk};
 ghost use Rattle.actx_data.specs.declared.end.End.TheVariants.{Going, Left};
-ghost use Rattle.actx_parse.specs.Tree.{next, end};
+ghost use Rattle.actx_ast.specs.Tree.{next, end, Return};
 ghost use Rattle.std.specs.Prelude.{option_map, slice_set};
 ghost use Rattle.std.specs.Option.{option_copied};
-ghost use Rattle.actx_parse.specs.View.{expr_view, stmt_view, stmts_view, items_view, returned};
+ghost use Rattle.actx_ast.specs.View.{expr_view, stmt_view, stmts_view, consts_view, maybe_expr};
 ghost use Rattle.actx_top.specs.Chains.{chain_of};
 ghost use Rattle.actx_top.specs.State.{set_in, set_cell, cells_at, with_items, with_names};
 ghost use Rattle.actx_top.specs.Machine.{takes, begin_item, exec, exec_list, exec_body, next_statement};
@@ -15,15 +15,15 @@ use super::{Completion, Frame, Target, Task};
 use crate::chain::{Chain, again, inside};
 use crate::scope::Scope;
 use crate::sound::Sound;
+use actx_ast::name::Name;
+use actx_ast::tree::{ConstItem, Expr, Stmt};
 use actx_data::{End, NoMemory};
-use actx_parse::name::Name;
-use actx_parse::tree::{ConstItem, Expr, Stmt};
 use std::alloc::Global;
 use std::mem;
 
 /// Declares the names of items.
 fn declare_items(alloc: Global, scope: &mut Scope, items: &[ConstItem]) -> Result<(), NoMemory>
-    ensures { OnOk result (scope.new ≡ with_items (items_view items.now) scope.old) }
+    ensures { OnOk result (scope.new ≡ with_items (consts_view items.now) scope.old) }
 {
     for item in items {
         scope.declare(alloc, &item.name)?;
@@ -37,11 +37,7 @@ fn declare_statement(alloc: Global, scope: &mut Scope, statement: &Stmt) -> Resu
 {
     match statement {
         Stmt::Const(items) => declare_items(alloc, scope, items),
-        Stmt::Value(_) => Ok(()),
-        Stmt::Return(_) => Ok(()),
-        Stmt::Block(_) => Ok(()),
-        Stmt::If { test: _, yes: _ } => Ok(()),
-        Stmt::Try { block: _, last: _ } => Ok(()),
+        _ => Ok(()),
     }
 }
 
@@ -94,7 +90,7 @@ impl<'a> Target<'a> {
     /// The next item of a const, or its end.
     pub fn begin_item(&mut self, items: &'a [ConstItem]) -> Result<(), NoMemory>
         requires { self.old.end ≡ End.Going }
-        ensures { OnOk result (state_of self.new ≡ takes (begin_item (items_view items.now) (frames_in self.old) (store_in self.old)) self.old.trace.items) }
+        ensures { OnOk result (state_of self.new ≡ takes (begin_item (consts_view items.now) (frames_in self.old) (store_in self.old)) self.old.trace.items) }
     {
         match items {
             [] => self.task = Task::Done(Completion::Normal),
@@ -109,7 +105,7 @@ impl<'a> Target<'a> {
     /// A return, of `undefined` where it has no expression.
     fn exec_return(&mut self, value: Option<&'a Expr>) -> Result<(), NoMemory>
         requires { self.old.end ≡ End.Going }
-        ensures { OnOk result (state_of self.new ≡ takes (exec (returned (option_map expr_view (option_copied value.entry))) (frames_in self.old) (store_in self.old)) self.old.trace.items) }
+        ensures { OnOk result (state_of self.new ≡ takes (exec (Return (maybe_expr (option_map expr_view (option_copied value.entry)))) (frames_in self.old) (store_in self.old)) self.old.trace.items) }
     {
         match value {
             None => self.task = Task::Done(Completion::Return(Sound::undefined())),
@@ -135,15 +131,23 @@ impl<'a> Target<'a> {
             }
             Stmt::Return(value) => self.exec_return(value.as_ref()),
             Stmt::Block(list) => self.exec_list(list),
-            Stmt::If { test, yes } => {
-                self.frames.push(Frame::If(yes))?;
+            Stmt::If(test, branch, other) => {
+                self.frames.push(Frame::If(branch, other))?;
                 self.task = Task::Eval(test);
                 Ok(())
             }
-            Stmt::Try { block, last } => {
+            Stmt::Try {
+                block,
+                catcher: None,
+                last: Some(last),
+            } => {
                 let back = again(&self.scope)?;
                 self.frames.push(Frame::Try(last, back))?;
                 self.task = Task::ExecList(block);
+                Ok(())
+            }
+            _ => {
+                self.leaves();
                 Ok(())
             }
         }

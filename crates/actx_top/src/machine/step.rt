@@ -1,10 +1,10 @@
 //! The rows of values and completions, one step, and runs with a bound.
 
-ghost use Rattle.std.specs.Prelude.{◌≡◌, [], ◌∷◌, ◌++◌, OnOk, reverse};
+ghost use Rattle.std.specs.Prelude.{◌≡◌, [], ◌∷◌, ◌++◌, OnOk, option_map, reverse};
 ghost use Rattle.actx_match.specs.Runs.{run};
 ghost use Rattle.actx_data.specs.declared.end.End.TheVariants.{Going, Threw};
-ghost use Rattle.actx_parse.specs.declared.side.Side.TheVariants.{Plain};
-ghost use Rattle.actx_parse.specs.View.{exprs_view, stmts_view};
+ghost use Rattle.actx_ast.specs.declared.side.Side.TheVariants.{Plain};
+ghost use Rattle.actx_ast.specs.View.{exprs_view, maybe_stmt, stmt_view, stmts_view};
 ghost use Rattle.actx_top.specs.Chains.{chain_of};
 ghost use Rattle.actx_top.specs.State.{back_from, CallOf, TryFrame};
 ghost use Rattle.actx_top.specs.Machine.{takes, eval_parts, idle, chosen, base_given, given, finished, list_done, call_done, last_done, done, step, goes};
@@ -18,9 +18,9 @@ use crate::chain::Chain;
 use crate::operators::{Answer, is_true};
 use crate::property::get;
 use crate::sound::Sound;
+use actx_ast::name::Name;
+use actx_ast::tree::{Expr, Stmt};
 use actx_data::{End, NoMemory};
-use actx_parse::name::Name;
-use actx_parse::tree::{Expr, Stmt};
 use std::mem;
 
 impl<'a> Target<'a> {
@@ -36,15 +36,18 @@ impl<'a> Target<'a> {
         }
     }
 
-    /// The branch of an if, where its test succeeds.
-    fn chosen(&mut self, test: bool, branch: &'a [Stmt])
+    /// The branch of an if where its test succeeds, else the other where it has one.
+    fn chosen(&mut self, test: bool, branch: &'a Stmt, other: &'a Option<Box<Stmt>>)
         requires { self.old.end ≡ End.Going }
-        ensures { state_of self.new ≡ takes (chosen test (stmts_view branch.now) (frames_in self.old) (store_in self.old)) self.old.trace.items }
+        ensures { state_of self.new ≡ takes (chosen test (stmt_view branch.now) (maybe_stmt (option_map (λ b. stmt_view b.value) other.now)) (frames_in self.old) (store_in self.old)) self.old.trace.items }
     {
         if test {
-            self.task = Task::ExecBlock(branch);
-        } else {
-            self.task = Task::Done(Completion::Normal);
+            self.task = Task::Exec(branch);
+            return;
+        }
+        match other {
+            Some(other) => self.task = Task::Exec(other),
+            None => self.task = Task::Done(Completion::Normal),
         }
     }
 
@@ -115,8 +118,8 @@ impl<'a> Target<'a> {
                 self.task = Task::Done(Completion::Return(value));
                 Ok(())
             }
-            Frame::If(branch) => {
-                self.chosen(is_true(value.value()), branch);
+            Frame::If(branch, other) => {
+                self.chosen(is_true(value.value()), branch, other);
                 Ok(())
             }
             Frame::Try(_, _back) => {
@@ -281,7 +284,6 @@ impl<'a> Target<'a> {
             Task::Exec(statement) => self.exec(statement),
             Task::ExecList(list) => self.exec_list(list),
             Task::ExecBody(list) => self.exec_body(list),
-            Task::ExecBlock(list) => self.exec_list(list),
             Task::Given(value) => self.given(value),
             Task::Done(completion) => self.done(completion),
             Task::Call(callee, receiver, args) => self.call(callee.value(), receiver, &args),

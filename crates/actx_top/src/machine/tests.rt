@@ -4,8 +4,11 @@ use super::Target;
 use crate::cases::{add_line, cases};
 use crate::operators::ascii;
 use crate::shown_text::shown_text;
+use actx_ast::side::Side;
+use actx_ast::tree::Program;
 use actx_data::{End, Event, NoMemory, Shown, TraceEvent, Twin, Units};
-use actx_parse::read::read_plain;
+use actx_lex::lex::lex;
+use actx_parse::parse::parse_plain;
 use std::alloc::Global;
 use std::test::Fail;
 
@@ -121,10 +124,21 @@ fn ending(alloc: Global, end: &End) -> Result<String, NoMemory> {
     }
 }
 
+/// The program of a plain text; `None` where it is none.
+fn plain(alloc: Global, text: &[u8]) -> Result<Option<Program>, NoMemory> {
+    let Ok(tokens) = lex(alloc, text, Side::Plain) else {
+        return Ok(None);
+    };
+    match parse_plain(alloc, &tokens) {
+        Ok(parsed) => Ok(Some(parsed.program)),
+        Err(_) => Ok(None),
+    }
+}
+
 /// Runs a plain text for at most so many steps: its trace and its end, as the cases have them.
 fn ran(alloc: Global, text: &str, steps: u64) -> Result<(String, String), NoMemory> {
     let mut out = String::new(alloc);
-    let Ok(program) = read_plain(alloc, text.as_bytes()) else {
+    let Some(program) = plain(alloc, text.as_bytes())? else {
         return Ok((out, String::from_str(alloc, "refused")?));
     };
     let mut target = Target::new(alloc, program.body.as_slice(), Vec::new(alloc))?;
@@ -154,7 +168,9 @@ fn host_events_do_not_change_a_run(rt: HostRuntime) -> Result<(), Fail> {
     let name = ascii(alloc, b"click")?;
     let text = Units::from_vec(Vec::new(alloc));
     let events = vec![in alloc; Event { name, text }]?;
-    let program = read_plain(alloc, b"console.log(1);")?;
+    let Some(program) = plain(alloc, b"console.log(1);")? else {
+        return Err(Fail::from("the program is none"));
+    };
     let mut target = Target::new(alloc, program.body.as_slice(), events)?;
     target.run(1_000)?;
     assert!(rt; target.end == End::Ended);

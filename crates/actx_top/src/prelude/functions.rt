@@ -1,21 +1,22 @@
 //! The bodies of the prelude's functions.
 
 ghost use Rattle.std.specs.Prelude.{◌≡◌, IfOk, [], codes};
-ghost use Rattle.actx_parse.specs.Tree as t;
-ghost use Rattle.actx_parse.specs.View.{expr_view, exprs_view, stmt_view, stmts_view};
+ghost use Rattle.actx_ast.specs.Tree as t;
+ghost use Rattle.actx_ast.specs.View.{expr_view, exprs_view, stmt_view, stmts_view};
 ghost use Rattle.actx_top.specs.Prelude as spec;
 
 use super::shapes::{
-    and, and_named, both, call, call_of, constant, freeze, member_of, named, one, only, property,
-    returned, same, set_member, then, three, two, units,
+    and, and_named, both, call, call_of, constant, ended_by, freeze, member_of, named, one, only,
+    property, returned, same, set_member, then, three, two, units, when,
 };
+use actx_ast::operators::{BinaryOp, Form};
+use actx_ast::tree::{Expr, Property, Stmt};
 use actx_data::{NoMemory, Units};
-use actx_parse::tree::{BinaryOp, Expr, Form, Property, Stmt};
 use std::alloc::Global;
 
 /// `list.number === number`.
 fn is_found(alloc: Global) -> Result<Expr, NoMemory>
-    ensures { IfOk result (λ e. expr_view e ≡ t.Binary BinaryOp.Same (t.Member (t.Named spec.the_list) spec.key_number) (t.Named spec.the_number)) }
+    ensures { IfOk result (λ e. expr_view e ≡ t.Binary BinaryOp.Same (spec.member (t.Named spec.the_list) spec.key_number) (t.Named spec.the_number)) }
 {
     let own = member_of(alloc, b"list", b"number")?;
     same(alloc, own, named(alloc, b"number")?)
@@ -23,7 +24,7 @@ fn is_found(alloc: Global) -> Result<Expr, NoMemory>
 
 /// A function of the prelude on the rest of the list, the number and one name more.
 fn on_rest(alloc: Global, function: &[u8], last: &[u8]) -> Result<Expr, NoMemory>
-    ensures { IfOk result (λ e. expr_view e ≡ t.Call (t.Named function.now) (spec.three (t.Member (t.Named spec.the_list) spec.key_rest) (t.Named spec.the_number) (t.Named last.now))) }
+    ensures { IfOk result (λ e. expr_view e ≡ t.Call (t.Named function.now) (spec.three (spec.member (t.Named spec.the_list) spec.key_rest) (t.Named spec.the_number) (t.Named last.now))) }
 {
     let rest = member_of(alloc, b"list", b"rest")?;
     let number = named(alloc, b"number")?;
@@ -35,14 +36,10 @@ fn find_in_list(alloc: Global) -> Result<Vec<Stmt>, NoMemory>
     ensures { IfOk result (λ v. stmts_view v.items ≡ spec.find_in_list) }
 {
     let value = member_of(alloc, b"list", b"value")?;
-    let found = only(alloc, Stmt::Return(Some(value)))?;
+    let found = only(alloc, returned(value))?;
     let test = is_found(alloc)?;
     let rest = on_rest(alloc, b"__find", b"other")?;
-    both(
-        alloc,
-        Stmt::If { test, yes: found },
-        Stmt::Return(Some(rest)),
-    )
+    both(alloc, when(alloc, test, found)?, returned(rest))
 }
 
 /// The body of `__find`.
@@ -52,7 +49,7 @@ pub fn find_body(alloc: Global) -> Result<Vec<Stmt>, NoMemory>
     let test = named(alloc, b"list")?;
     let yes = find_in_list(alloc)?;
     let other = named(alloc, b"other")?;
-    both(alloc, Stmt::If { test, yes }, Stmt::Return(Some(other)))
+    both(alloc, when(alloc, test, yes)?, returned(other))
 }
 
 /// An entry of a mapping.
@@ -72,7 +69,7 @@ fn with_found(alloc: Global) -> Result<Vec<Stmt>, NoMemory>
     let value = named(alloc, b"value")?;
     let rest = member_of(alloc, b"list", b"rest")?;
     let made = entry(alloc, number, value, rest)?;
-    only(alloc, Stmt::Return(Some(made)))
+    only(alloc, returned(made))
 }
 
 fn with_in_list(alloc: Global) -> Result<Vec<Stmt>, NoMemory>
@@ -84,7 +81,7 @@ fn with_in_list(alloc: Global) -> Result<Vec<Stmt>, NoMemory>
     let value = member_of(alloc, b"list", b"value")?;
     let rest = on_rest(alloc, b"__with", b"value")?;
     let made = entry(alloc, number, value, rest)?;
-    both(alloc, Stmt::If { test, yes }, Stmt::Return(Some(made)))
+    both(alloc, when(alloc, test, yes)?, returned(made))
 }
 
 /// The body of `__with`.
@@ -96,7 +93,7 @@ pub fn with_body(alloc: Global) -> Result<Vec<Stmt>, NoMemory>
     let number = named(alloc, b"number")?;
     let value = named(alloc, b"value")?;
     let made = entry(alloc, number, value, Expr::Undefined)?;
-    both(alloc, Stmt::If { test, yes }, Stmt::Return(Some(made)))
+    both(alloc, when(alloc, test, yes)?, returned(made))
 }
 
 /// `const state = __states.get(this);`.
@@ -110,7 +107,7 @@ fn own_state(alloc: Global) -> Result<Stmt, NoMemory>
 
 /// The value that is found for the state's number.
 fn value_found(alloc: Global) -> Result<Expr, NoMemory>
-    ensures { IfOk result (λ e. expr_view e ≡ t.Call (t.Named spec.name_find) (spec.three spec.now_mapping (t.Named spec.the_number) (t.Member (t.Named spec.the_state) spec.key_value))) }
+    ensures { IfOk result (λ e. expr_view e ≡ t.Call (t.Named spec.name_find) (spec.three spec.now_mapping (t.Named spec.the_number) (spec.member (t.Named spec.the_state) spec.key_value))) }
 {
     let mapping = member_of(alloc, b"__now", b"mapping")?;
     let number = named(alloc, b"number")?;
@@ -141,7 +138,7 @@ pub fn get_body(alloc: Global) -> Result<Vec<Stmt>, NoMemory>
     )?;
     let list = then(list, constant(alloc, b"value", value_found(alloc)?)?)?;
     let list = then(list, note(alloc)?)?;
-    then(list, Stmt::Return(Some(named(alloc, b"value")?)))
+    then(list, returned(named(alloc, b"value")?))
 }
 
 /// `f.call(undefined, a, b, c, d, e, g)`.
@@ -160,7 +157,7 @@ fn handed_on(alloc: Global) -> Result<Expr, NoMemory>
 
 /// `__now.mapping = __with(old, state.number, value);`.
 fn enter(alloc: Global) -> Result<Stmt, NoMemory>
-    ensures { IfOk result (λ s. stmt_view s ≡ t.Value (t.SetMember (t.Named spec.name_now) spec.key_mapping (t.Call (t.Named spec.name_with) (spec.three (t.Named spec.the_old) (t.Member (t.Named spec.the_state) spec.key_number) (t.Named spec.the_value))))) }
+    ensures { IfOk result (λ s. stmt_view s ≡ t.Value (spec.set_member (t.Named spec.name_now) spec.key_mapping (t.Call (t.Named spec.name_with) (spec.three (t.Named spec.the_old) (spec.member (t.Named spec.the_state) spec.key_number) (t.Named spec.the_value))))) }
 {
     let old = named(alloc, b"old")?;
     let number = member_of(alloc, b"state", b"number")?;
@@ -171,12 +168,12 @@ fn enter(alloc: Global) -> Result<Stmt, NoMemory>
 
 /// The call in the new mapping, after which the old one is put back.
 fn inside(alloc: Global) -> Result<Stmt, NoMemory>
-    ensures { IfOk result (λ s. stmt_view s ≡ t.Try spec.run_block spec.run_last) }
+    ensures { IfOk result (λ s. stmt_view s ≡ spec.ended_by spec.run_block spec.run_last) }
 {
-    let block = only(alloc, Stmt::Return(Some(handed_on(alloc)?)))?;
+    let block = only(alloc, returned(handed_on(alloc)?))?;
     let old = named(alloc, b"old")?;
     let last = only(alloc, set_member(alloc, b"__now", b"mapping", old)?)?;
-    Ok(Stmt::Try { block, last })
+    Ok(ended_by(block, last))
 }
 
 /// The body of a variable's `run`.
@@ -191,7 +188,7 @@ pub fn run_body(alloc: Global) -> Result<Vec<Stmt>, NoMemory>
 
 /// `const number = __now.count + 1;`.
 fn next_number(alloc: Global) -> Result<Stmt, NoMemory>
-    ensures { IfOk result (λ s. stmt_view s ≡ spec.const spec.the_number (t.Binary BinaryOp.Add (t.Member (t.Named spec.name_now) spec.key_count) (t.Num 1))) }
+    ensures { IfOk result (λ s. stmt_view s ≡ spec.const spec.the_number (t.Binary BinaryOp.Add (spec.member (t.Named spec.name_now) spec.key_count) (t.Num 1))) }
 {
     let left = Box::new(alloc, member_of(alloc, b"__now", b"count")?)?;
     let right = Box::new(alloc, Expr::Num(1))?;
@@ -200,7 +197,7 @@ fn next_number(alloc: Global) -> Result<Stmt, NoMemory>
 
 /// A new variable: its methods and its name.
 fn new_variable(alloc: Global) -> Result<Stmt, NoMemory>
-    ensures { IfOk result (λ s. stmt_view s ≡ spec.const spec.the_variable (spec.freeze (t.property (codes "get") (t.Named spec.name_get) (t.property (codes "run") (t.Named spec.name_run) (t.property (codes "name") (t.Named spec.the_name) t.no_properties))))) }
+    ensures { IfOk result (λ s. stmt_view s ≡ spec.const spec.the_variable (spec.freeze (spec.keyed (codes "get") (t.Named spec.name_get) (spec.keyed (codes "run") (t.Named spec.name_run) (spec.keyed (codes "name") (t.Named spec.the_name) t.no_properties))))) }
 {
     let get = property(alloc, b"get", named(alloc, b"__get")?)?;
     let run = property(alloc, b"run", named(alloc, b"__run")?)?;
@@ -209,13 +206,20 @@ fn new_variable(alloc: Global) -> Result<Stmt, NoMemory>
     constant(alloc, b"variable", made)
 }
 
-/// The state of a new variable is kept for it.
-fn keep_state(alloc: Global) -> Result<Stmt, NoMemory>
-    ensures { IfOk result (λ s. stmt_view s ≡ t.Value (t.Call (t.Member (t.Named spec.name_states) (codes "set")) (spec.two (t.Named spec.the_variable) (spec.freeze (t.property spec.key_number (t.Named spec.the_number) (t.property spec.key_value (t.Named spec.the_value) t.no_properties)))))) }
+/// The state of a new variable: its number and its value.
+fn new_state(alloc: Global) -> Result<Expr, NoMemory>
+    ensures { IfOk result (λ e. expr_view e ≡ spec.freeze (spec.keyed spec.key_number (t.Named spec.the_number) (spec.keyed spec.key_value (t.Named spec.the_value) t.no_properties))) }
 {
     let number = property(alloc, b"number", named(alloc, b"number")?)?;
     let value = property(alloc, b"value", named(alloc, b"value")?)?;
-    let state = freeze(alloc, vec![in alloc; number, value]?)?;
+    Ok(freeze(alloc, vec![in alloc; number, value]?)?)
+}
+
+/// The state of a new variable is kept for it.
+fn keep_state(alloc: Global) -> Result<Stmt, NoMemory>
+    ensures { IfOk result (λ s. stmt_view s ≡ t.Value (t.Call (spec.member (t.Named spec.name_states) (codes "set")) (spec.two (t.Named spec.the_variable) (spec.freeze (spec.keyed spec.key_number (t.Named spec.the_number) (spec.keyed spec.key_value (t.Named spec.the_value) t.no_properties)))))) }
+{
+    let state = new_state(alloc)?;
     let set = member_of(alloc, b"__states", b"set")?;
     let variable = named(alloc, b"variable")?;
     Ok(Stmt::Value(call(alloc, set, two(alloc, variable, state)?)?))
@@ -229,7 +233,7 @@ pub fn make_body(alloc: Global) -> Result<Vec<Stmt>, NoMemory>
     let number = named(alloc, b"number")?;
     let list = then(list, set_member(alloc, b"__now", b"count", number)?)?;
     let list = then(list, keep_state(alloc)?)?;
-    then(list, Stmt::Return(Some(named(alloc, b"variable")?)))
+    then(list, returned(named(alloc, b"variable")?))
 }
 
 /// `__make(name, value)`.
@@ -242,7 +246,7 @@ fn make_call(alloc: Global, name: Expr, value: Expr) -> Result<Expr, NoMemory>
 
 /// `return __make(name, value);`.
 fn made(alloc: Global, name: Expr, value: Expr) -> Result<Stmt, NoMemory>
-    ensures { IfOk result (λ s. stmt_view s ≡ t.Return (t.Call (t.Named spec.name_make) (spec.two (expr_view name) (expr_view value)))) }
+    ensures { IfOk result (λ s. stmt_view s ≡ spec.returns (t.Call (t.Named spec.name_make) (spec.two (expr_view name) (expr_view value)))) }
 {
     Ok(returned(make_call(alloc, name, value)?))
 }
@@ -256,13 +260,13 @@ fn no_text(alloc: Global) -> Result<Expr, NoMemory>
 
 /// A variable whose options have no name.
 fn unnamed(alloc: Global) -> Result<Stmt, NoMemory>
-    ensures { IfOk result (λ s. stmt_view s ≡ t.If (t.Binary BinaryOp.Same (t.Named spec.the_name) t.Undefined) spec.variable_unnamed) }
+    ensures { IfOk result (λ s. stmt_view s ≡ spec.when (t.Binary BinaryOp.Same (t.Named spec.the_name) t.Undefined) spec.variable_unnamed) }
 {
     let name = named(alloc, b"name")?;
     let test = same(alloc, name, Expr::Undefined)?;
     let value = named(alloc, b"value")?;
     let yes = only(alloc, made(alloc, no_text(alloc)?, value)?)?;
-    Ok(Stmt::If { test, yes })
+    when(alloc, test, yes)
 }
 
 /// A variable with options: the name has a length, or is none.
@@ -285,5 +289,5 @@ pub fn variable_body(alloc: Global) -> Result<Vec<Stmt>, NoMemory>
     let test = named(alloc, b"options")?;
     let yes = variable_options(alloc)?;
     let alone = made(alloc, no_text(alloc)?, Expr::Undefined)?;
-    both(alloc, Stmt::If { test, yes }, alone)
+    both(alloc, when(alloc, test, yes)?, alone)
 }

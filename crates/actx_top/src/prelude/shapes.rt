@@ -1,15 +1,16 @@
 //! Shapes of which the prelude is built, as `base.key` and `const name = value;`.
 
-ghost use Rattle.std.specs.Prelude.{◌≡◌, IfOk, [], ◌∷◌, ◌++◌};
-ghost use Rattle.actx_parse.specs.Grammar.{with_last};
-ghost use Rattle.actx_parse.specs.Parser.{with_stmt};
-ghost use Rattle.actx_parse.specs.Tree as t;
-ghost use Rattle.actx_parse.specs.View.{expr_view, exprs_view, properties_view, stmt_view, stmts_view};
+ghost use Rattle.std.specs.Prelude.{◌≡◌, IfOk, [], ◌∷◌, ◌++◌, option_map};
+ghost use Rattle.actx_ast.specs.Grammar.{with_last};
+ghost use Rattle.actx_ast.specs.Parser.{with_stmt};
+ghost use Rattle.actx_ast.specs.Tree as t;
+ghost use Rattle.actx_ast.specs.View.{expr_view, exprs_view, maybe_stmt, properties_view, stmt_view, stmts_view};
 ghost use Rattle.actx_top.specs.Prelude as spec;
 
+use actx_ast::name::Name;
+use actx_ast::operators::{BinaryOp, Form};
+use actx_ast::tree::{ConstItem, Expr, Key, PropKey, Property, Stmt};
 use actx_data::{NoMemory, Units};
-use actx_parse::name::Name;
-use actx_parse::tree::{BinaryOp, ConstItem, Expr, Form, Property, Stmt};
 use std::alloc::Global;
 
 /// The name of these ASCII characters.
@@ -36,15 +37,15 @@ pub fn named(alloc: Global, word: &[u8]) -> Result<Expr, NoMemory>
 
 /// `base.key`.
 pub fn member(alloc: Global, base: Expr, key: &[u8]) -> Result<Expr, NoMemory>
-    ensures { IfOk result (λ e. expr_view e ≡ t.Member (expr_view base) key.now) }
+    ensures { IfOk result (λ e. expr_view e ≡ spec.member (expr_view base) key.now) }
 {
     let base = Box::new(alloc, base)?;
-    Ok(Expr::Member(base, name(alloc, key)?))
+    Ok(Expr::Member(base, Key::Dot(name(alloc, key)?)))
 }
 
 /// `base.key`, of a name.
 pub fn member_of(alloc: Global, base: &[u8], key: &[u8]) -> Result<Expr, NoMemory>
-    ensures { IfOk result (λ e. expr_view e ≡ t.Member (t.Named base.now) key.now) }
+    ensures { IfOk result (λ e. expr_view e ≡ spec.member (t.Named base.now) key.now) }
 {
     let base = named(alloc, base)?;
     member(alloc, base, key)
@@ -84,9 +85,9 @@ pub fn call_of(alloc: Global, callee: &[u8], args: Vec<Expr>) -> Result<Expr, No
 
 /// `key: value` in a literal.
 pub fn property(alloc: Global, key: &[u8], value: Expr) -> Result<Property, NoMemory>
-    ensures { IfOk result (λ p. properties_view (p ∷ []) ≡ t.property key.now (expr_view value) t.no_properties) }
+    ensures { IfOk result (λ p. properties_view (p ∷ []) ≡ spec.keyed key.now (expr_view value) t.no_properties) }
 {
-    let key = units(alloc, key)?;
+    let key = PropKey::Fixed(units(alloc, key)?);
     Ok(Property { key, value })
 }
 
@@ -107,9 +108,35 @@ pub fn constant(alloc: Global, word: &[u8], value: Expr) -> Result<Stmt, NoMemor
 
 /// `return e;`.
 pub fn returned(e: Expr) -> Stmt
-    ensures { stmt_view result ≡ t.Return (expr_view e) }
+    ensures { stmt_view result ≡ spec.returns (expr_view e) }
 {
     Stmt::Return(Some(e))
+}
+
+/// A statement that is executed where a test holds, and one where it doesn't.
+fn branch(test: Expr, yes: Box<Stmt>, no: Option<Box<Stmt>>) -> Stmt
+    ensures { stmt_view result ≡ t.If (expr_view test) (stmt_view yes.value) (maybe_stmt (option_map (λ b. stmt_view b.value) no)) }
+{
+    Stmt::If(test, yes, no)
+}
+
+/// `if (test) { .. }`.
+pub fn when(alloc: Global, test: Expr, yes: Vec<Stmt>) -> Result<Stmt, NoMemory>
+    ensures { IfOk result (λ s. stmt_view s ≡ spec.when (expr_view test) (stmts_view yes.items)) }
+{
+    let yes = Box::new(alloc, Stmt::Block(yes))?;
+    Ok(branch(test, yes, None))
+}
+
+/// `try { .. } finally { .. }`.
+pub fn ended_by(block: Vec<Stmt>, last: Vec<Stmt>) -> Stmt
+    ensures { stmt_view result ≡ spec.ended_by (stmts_view block.items) (stmts_view last.items) }
+{
+    Stmt::Try {
+        block,
+        catcher: None,
+        last: Some(last),
+    }
 }
 
 /// A list of one statement.
@@ -136,10 +163,10 @@ pub fn same(alloc: Global, a: Expr, b: Expr) -> Result<Expr, NoMemory>
 
 /// `base.key = value`, of a name.
 pub fn set_member(alloc: Global, base: &[u8], key: &[u8], value: Expr) -> Result<Stmt, NoMemory>
-    ensures { IfOk result (λ s. stmt_view s ≡ t.Value (t.SetMember (t.Named base.now) key.now (expr_view value))) }
+    ensures { IfOk result (λ s. stmt_view s ≡ t.Value (spec.set_member (t.Named base.now) key.now (expr_view value))) }
 {
     let base = Box::new(alloc, named(alloc, base)?)?;
-    let key = name(alloc, key)?;
+    let key = Key::Dot(name(alloc, key)?);
     Ok(Stmt::Value(Expr::SetMember(base, key, Box::new(alloc, value)?)))
 }
 

@@ -1,13 +1,19 @@
 //! The top call over cabinets and sinks in memory.
 
-use super::actx;
+use super::{TextFault, actx, lower_text};
 use crate::cases::{Case, cases};
+use actx_lex::lines::Place;
 use actx_ports::{MemoryCabinet, MemorySink};
 use std::alloc::{AllocError, Global};
 use std::test::Fail;
 
+mod emitted;
 mod examples;
+mod grammar;
 mod language;
+mod refused;
+
+use refused::REFUSED;
 
 /// What a call answered, and what it wrote.
 #[derive(Drop)]
@@ -112,12 +118,13 @@ const USAGE: &str =
     "actx: usage: actx MODE [FILE] [--events FILE] [--steps N] [--seed N] [--count N]\n";
 
 /// Words with their number, and the status.
-const WORDS: [(&str, &str, usize, u8, &str); 9] = [
+const WORDS: [(&str, &str, usize, u8, &str); 10] = [
     ("run", "a.js", 2, 0, ""),
     ("", "", 0, 2, USAGE),
     ("run", "", 1, 2, USAGE),
     ("run", "a.js", 3, 2, USAGE),
-    ("lower", "a.js", 2, 2, USAGE),
+    ("lower", "a.js", 2, 0, ""),
+    ("trace", "a.js", 2, 2, USAGE),
     ("run", "--steps", 2, 2, USAGE),
     ("run", "-", 2, 2, USAGE),
     ("run", "b.js", 2, 6, "actx: cannot read b.js\n"),
@@ -144,6 +151,43 @@ fn words_are_read(rt: HostRuntime) -> Result<(), Fail> {
     Ok(())
 }
 
+#[test]
+fn the_emitted_text_is_written(rt: HostRuntime) -> Result<(), Fail> {
+    let mode = String::from_str(rt.alloc(), "lower")?;
+    let file = String::from_str(rt.alloc(), "a.js")?;
+    let words = vec![in rt.alloc(); mode, file]?;
+    let got = called(rt.alloc(), words, SUM.as_bytes(), NONE)?;
+    assert_eq!(rt; got.status, 0);
+    assert_eq!(rt; got.fault.as_str(), "");
+    assert!(rt;
+        got.out
+            .starts_with("\"use strict\" ;\nconst __states = new WeakMap ( ) ;\n")
+    );
+    assert!(rt; got.out.ends_with("}\n;\nconsole . log ( 1 + 2 * 3 ) ;\n"));
+    let made = lower_text(rt.alloc(), SUM.as_bytes())?;
+    assert_eq!(rt; got.out.as_bytes(), made.as_slice());
+    Ok(())
+}
+
+#[test]
+fn a_refusal_has_a_number_and_a_place(rt: HostRuntime) -> Result<(), Fail> {
+    for (text, number, line, column, name) in REFUSED {
+        let got = lower_text(rt.alloc(), text.as_bytes());
+        let place = Place { line, column };
+        assert_eq!(rt;
+            got.err(),
+            Some(TextFault::Refused { number, place }),
+            "{text}"
+        );
+        let told = format!(in rt.alloc(); "actx: a.js:{line}:{column}: {number} {name}\n")?;
+        let got = ran(rt.alloc(), text, NONE)?;
+        assert_eq!(rt; got.status, 3, "{text}");
+        assert_eq!(rt; got.out.as_str(), "", "{text}");
+        assert_eq!(rt; got.fault.as_str(), told.as_str(), "{text}");
+    }
+    Ok(())
+}
+
 /// A text that is repeated, between two others.
 fn repeated(
     alloc: Global,
@@ -162,8 +206,8 @@ fn repeated(
 
 /// Texts at a limit and one past it: what is repeated how often, the status, and how many bytes are printed.
 const LIMITS: [(&str, &str, u32, &str, u8, usize); 8] = [
-    ("", "console.log(1);\n", 65_536, "", 0, 131_072),
-    ("", "console.log(1);\n", 65_536, "\n", 3, 0),
+    ("console.log(1);//", "x", 1_048_559, "", 0, 2),
+    ("console.log(1);//", "x", 1_048_560, "", 3, 0),
     (
         "const a = \"",
         "x",
@@ -183,7 +227,7 @@ const LIMITS: [(&str, &str, u32, &str, u8, usize); 8] = [
     ("const a = \"", "x", 524_288, "\"; console.log(a, a);", 4, 0),
     ("const a = ", "(", 198, "1", 3, 0),
     ("console.log(9007199254740992", "", 0, ");", 3, 0),
-    ("console.log(\"\u{e9}", "", 0, "\");", 3, 0),
+    ("console.log(\"\u{e9}", "", 0, "\");", 0, 3),
 ];
 
 #[test]
@@ -194,6 +238,24 @@ fn limits_are_exact(rt: HostRuntime) -> Result<(), Fail> {
         assert_eq!(rt; got.status, status, "{before} {times} {after}");
         assert_eq!(rt; got.out.len(), printed, "{before} {times} {after}");
     }
+    Ok(())
+}
+
+#[test]
+fn many_statements_run(rt: HostRuntime) -> Result<(), Fail> {
+    let text = repeated(rt.alloc(), "", "console.log(1);\n", 16_384, "")?;
+    let got = ran(rt.alloc(), text.as_str(), NONE)?;
+    assert_eq!(rt; got.status, 0);
+    assert_eq!(rt; got.out.len(), 32_768);
+    Ok(())
+}
+
+#[test]
+fn a_longer_text_is_refused(rt: HostRuntime) -> Result<(), Fail> {
+    let text = repeated(rt.alloc(), "", "console.log(1);\n", 65_536, "\n")?;
+    let got = ran(rt.alloc(), text.as_str(), NONE)?;
+    assert_eq!(rt; got.status, 3);
+    assert_eq!(rt; got.fault.as_str(), "actx: a.js:1:1: 3 TooLong\n");
     Ok(())
 }
 
@@ -215,6 +277,6 @@ fn bytes_that_are_no_text_are_refused(rt: HostRuntime) -> Result<(), Fail> {
     let words = vec![in rt.alloc(); mode, file]?;
     let got = called(rt.alloc(), words, b"console.log(\"\xff\");", NONE)?;
     assert_eq!(rt; got.status, 3);
-    assert_eq!(rt; got.fault.as_str(), "actx: a.js:1:1: 13 NotYet\n");
+    assert_eq!(rt; got.fault.as_str(), "actx: a.js:1:14: 1 NotUtf8\n");
     Ok(())
 }

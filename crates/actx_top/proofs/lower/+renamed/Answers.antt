@@ -1,7 +1,7 @@
 use Rattle.std.proofs.Common.{◌≡◌, ap, ◌∙◌, arith, take, map}
 use Rattle.std.proofs.lemmas.Grind.{common_steps}
-use Rattle.actx_parse.specs.View.{expr_view, exprs_of, item_view, items_of, property_view, properties_of, stmt_view, stmts_of}
-use Rattle.actx_top.specs.Low.{p_, renamed, stmt_renamed}
+use Rattle.actx_ast.specs.View.{expr_view, exprs_of, const_view, consts_of, property_view, properties_of, stmt_view, stmts_of}
+use Rattle.actx_top.specs.Low.{p_, renamed, prop_key_renamed, stmt_renamed}
 use Rattle.actx_top.proofs.Lowered.{exprs_each, properties_each, items_each, statements_each}
 use Rattle.actx_top.proofs.lower.+renamed.Goals as goal
 
@@ -13,12 +13,12 @@ all_renamed-returns t c =
 pub properties_renamed-returns : goal.properties_renamed-returns
 properties_renamed-returns t c =
     let full : take c.loop-property.property-index c.deref-property-items.result.now ≡ c.args.properties.now.items = grind (arith, common_steps) in
-    ap properties_of c.loop-property.invariant ∙ ap (λ xs. properties_of (map (λ p. ((property_view p).0, renamed (property_view p).1)) xs)) full ∙ properties_each c.args.properties.now.items
+    ap properties_of c.loop-property.invariant ∙ ap (λ xs. properties_of (map (λ p. (prop_key_renamed (property_view p).0, renamed (property_view p).1)) xs)) full ∙ properties_each c.args.properties.now.items
 
 pub items_renamed-returns : goal.items_renamed-returns
 items_renamed-returns t c =
     let full : take c.loop-item.item-index c.deref-item-items.result.now ≡ c.args.items.now.items = grind (arith, common_steps) in
-    ap items_of c.loop-item.invariant ∙ ap (λ xs. items_of (map (λ i. (p_ (item_view i).0, renamed (item_view i).1)) xs)) full ∙ items_each c.args.items.now.items
+    ap consts_of c.loop-item.invariant ∙ ap (λ xs. consts_of (map (λ i. (p_ (const_view i).0, renamed (const_view i).1)) xs)) full ∙ items_each c.args.items.now.items
 
 pub program_renamed-returns : goal.program_renamed-returns
 program_renamed-returns t c =

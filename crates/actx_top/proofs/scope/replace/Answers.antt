@@ -1,5 +1,5 @@
 use Rattle.std.proofs.Common.{◌∙◌, ap, position}
-use Rattle.actx_parse.specs.Lexical.{same_text}
+use Rattle.actx_top.specs.Texts.{same_text}
 use Rattle.actx_top.proofs.Cells.{replaced_placed, replaced_behind}
 use Rattle.actx_top.proofs.scope.replace.Goals as goal
 

@@ -1,5 +1,5 @@
 use Rattle.std.proofs.Common.{◌≡◌, length, drop}
-use Rattle.actx_parse.specs.Lexical.{same_text}
+use Rattle.actx_top.specs.Texts.{same_text}
 use Rattle.actx_top.proofs.word.is_word.Given as goal
 
 abbrev pub invariant-loop-i : goal.invariant-loop-i

@@ -1,4 +1,4 @@
-//! The programs of examples/, and texts of the language that aren't taken yet.
+//! The programs of examples/, texts of the language that aren't taken yet, texts that are none, and what is read of a text.
 
 use super::tried;
 use std::test::Fail;
@@ -99,16 +99,16 @@ let a = 1;
 ! actx: a.js:1:1: 13 NotYet
 = 3
 this;
-! actx: a.js:1:1: 13 NotYet
+! actx: a.js:1:1: 11 Misplaced
 = 3
 1 === 1;
 ! actx: a.js:1:1: 13 NotYet
 = 3
 const f = function () {};
-! actx: a.js:1:1: 13 NotYet
+! actx: a.js:1:11: 13 NotYet
 = 3
 ({});
-! actx: a.js:1:1: 13 NotYet
+! actx: a.js:1:2: 13 NotYet
 = 3
 if (1) { }
 ! actx: a.js:1:1: 13 NotYet
@@ -120,26 +120,101 @@ try { } finally { }
 ! actx: a.js:1:1: 13 NotYet
 = 3
 const a = 1; a.b;
-! actx: a.js:1:1: 13 NotYet
+! actx: a.js:1:16: 13 NotYet
 = 3
 const v = new AsyncContext.Variable(); v.name = 1;
-! actx: a.js:1:1: 13 NotYet
+! actx: a.js:1:40: 13 NotYet
 = 3
 new WeakMap();
-! actx: a.js:1:1: 13 NotYet
+! actx: a.js:1:5: 5 Unexpected
 = 3
 const o = 1; o.call(1);
-! actx: a.js:1:1: 13 NotYet
+! actx: a.js:1:16: 13 NotYet
 = 3
 Object.freeze(1);
-! actx: a.js:1:1: 13 NotYet
+! actx: a.js:1:1: 8 Undeclared
 = 3
 new AsyncContext.Snapshot();
 ! actx: a.js:1:1: 13 NotYet
 = 3
 const f = async () => 1;
+! actx: a.js:1:11: 13 NotYet
+= 3
+while (1) { }
 ! actx: a.js:1:1: 13 NotYet
 = 3
+const f = (a) => { let b = a; };
+! actx: a.js:1:20: 13 NotYet
+= 3
+console.log(1 < 2);
+! actx: a.js:1:13: 13 NotYet
+= 3
+const o = { a: 1 };
+! actx: a.js:1:11: 13 NotYet
+= 3
+new AsyncContext.Variable({ ["n"]: 1 });
+! actx: a.js:1:30: 13 NotYet
+= 3
+"#;
+
+/// Texts that are no program.
+const REFUSED: &str = r#"
+console.log(1, [1]);
+! actx: a.js:1:16: 5 Unexpected
+= 3
+console.log(1
+! actx: a.js:2:1: 5 Unexpected
+= 3
+a # b
+! actx: a.js:1:3: 2 BadToken
+= 3
+console.log(01);
+! actx: a.js:1:13: 4 BadNumber
+= 3
+const f = x /*
+*/ => x;
+! actx: a.js:2:4: 5 Unexpected
+= 3
+console.log(1);
+break;
+! actx: a.js:2:1: 11 Misplaced
+= 3
+const été = eval;
+! actx: a.js:1:13: 10 Reserved
+= 3
+"#;
+
+/// Texts with comments, escapes, names of other letters, parentheses and commas that may be left out.
+const READ: &str = r#"
+/* a */ console.log(1); // b
+> 1
+= 0
+// a line
+console.log("it", 'is', /* here */ "so");
+> it is so
+= 0
+console.log("\x41\u0042\u{43} \"\\", '"');
+> ABC "\ "
+= 0
+console.log("one\ntwo");
+> one
+> two
+= 0
+console.log("\ud83d\ude00", "é");
+> 😀 é
+= 0
+const été = 1; const π = 3; console.log(été + π);
+> 4
+= 0
+console.log((((1 + 2))) * (3));
+> 9
+= 0
+const f = (a, b,) => (a + b); console.log(f(1, 2,),);
+> 3
+= 0
+const v = new AsyncContext.Variable({ "name": "n", defaultValue: 1, }); console.log((v).get(), (v.name));
+> 1 n
+= 0
 "#;
 
 #[test]
@@ -154,6 +229,22 @@ fn examples_run(rt: HostRuntime) -> Result<(), Fail> {
 fn other_forms_are_refused(rt: HostRuntime) -> Result<(), Fail> {
     let (count, failed) = tried(rt.alloc(), NOT_TAKEN)?;
     assert_eq!(rt; failed.as_str(), "");
-    assert_eq!(rt; count, 15);
+    assert_eq!(rt; count, 20);
+    Ok(())
+}
+
+#[test]
+fn other_texts_are_refused(rt: HostRuntime) -> Result<(), Fail> {
+    let (count, failed) = tried(rt.alloc(), REFUSED)?;
+    assert_eq!(rt; failed.as_str(), "");
+    assert_eq!(rt; count, 7);
+    Ok(())
+}
+
+#[test]
+fn texts_are_read_whole(rt: HostRuntime) -> Result<(), Fail> {
+    let (count, failed) = tried(rt.alloc(), READ)?;
+    assert_eq!(rt; failed.as_str(), "");
+    assert_eq!(rt; count, 9);
     Ok(())
 }

@@ -41,7 +41,7 @@ console.log(1,2,3,4,5,6,7,8);
 > 1 2 3 4 5 6 7 8
 = 0
 console.log(1,2,3,4,5,6,7,8,9);
-! actx: a.js:1:1: 13 NotYet
+! actx: a.js:1:29: 7 TooMany
 = 3
 console.log(0 - 9007199254740991);
 > -9007199254740991
@@ -60,19 +60,18 @@ const a = 1, b = a + 1; console.log(a - b - 1, a - (b - 1));
 > -2 0
 = 0
 const a = 1; const a = 2;
-! actx: a.js:1:1: 13 NotYet
+! actx: a.js:1:20: 9 Twice
 = 3
 const undefined = 1;
-! actx: a.js:1:1: 13 NotYet
+! actx: a.js:1:7: 10 Reserved
 = 3
 console.log(y);
-! actx: a.js:1:1: 13 NotYet
+! actx: a.js:1:13: 8 Undeclared
 = 3
 const a = 1; a;
 = 0
 // nothing
-! actx: a.js:1:1: 13 NotYet
-= 3
+= 0
 "#;
 
 /// Programs of functions.
@@ -178,24 +177,24 @@ console.log("a" + undefined);
 = 0
 const f = x
  => x;
-! actx: a.js:1:1: 13 NotYet
+! actx: a.js:2:2: 5 Unexpected
 = 3
 const f = () => { return
 1; };
-! actx: a.js:1:1: 13 NotYet
+! actx: a.js:2:1: 5 Unexpected
 = 3
 const f = () => { return
 ; }; console.log(f());
 > undefined
 = 0
 const f = (a, a) => a;
-! actx: a.js:1:1: 13 NotYet
+! actx: a.js:1:15: 9 Twice
 = 3
 const f = a => { const a = 1; };
-! actx: a.js:1:1: 13 NotYet
+! actx: a.js:1:24: 9 Twice
 = 3
 return 1;
-! actx: a.js:1:1: 13 NotYet
+! actx: a.js:1:1: 11 Misplaced
 = 3
 "#;
 
@@ -247,13 +246,13 @@ new AsyncContext.Variable({ name: f }); const f = 1;
 ! actx: threw #1 ReferenceError ""
 = 1
 new AsyncContext.Variable({ __proto__: 1 });
-! actx: a.js:1:1: 13 NotYet
+! actx: a.js:1:29: 10 Reserved
 = 3
 new AsyncContext.Variable(1);
-! actx: a.js:1:1: 13 NotYet
+! actx: a.js:1:27: 13 NotYet
 = 3
 new AsyncContext.Variable({}, {});
-! actx: a.js:1:1: 13 NotYet
+! actx: a.js:1:31: 5 Unexpected
 = 3
 const v = new AsyncContext.Variable({ defaultValue: "d" }); v.run(undefined, () => console.log(v.get()));
 > undefined

@@ -1,8 +1,8 @@
 use Rattle.std.proofs.Common.{◌∙◌, ap, Some, None, if◌then◌else◌}
 use Rattle.std.specs.Prelude.{◌&&◌}
-use Rattle.actx_parse.specs.declared.side.Side.TheVariants.{Plain}
-use Rattle.actx_parse.specs.Parser.{suits}
-use Rattle.actx_parse.specs.View.{exprs_view}
+use Rattle.actx_ast.specs.declared.side.Side.TheVariants.{Plain}
+use Rattle.actx_ast.specs.ParserOperands.{suits}
+use Rattle.actx_ast.specs.View.{exprs_view}
 use Rattle.actx_top.specs.Machine.{takes, has_form}
 use Rattle.actx_top.specs.MachineView.{frames_in, store_in}
 use Rattle.actx_top.proofs.Forms.{form_goes, form_stops}

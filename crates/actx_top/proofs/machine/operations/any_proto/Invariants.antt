@@ -1,5 +1,5 @@
 use Rattle.std.proofs.Common.{◌≡◌, drop}
-use Rattle.actx_parse.specs.View.{properties_view}
+use Rattle.actx_ast.specs.View.{properties_view}
 use Rattle.actx_top.specs.Machine.{keys_of}
 use Rattle.actx_top.specs.Properties.{any_proto}
 use Rattle.actx_top.proofs.machine.operations.any_proto.Given as goal

@@ -1,5 +1,5 @@
 use Rattle.std.proofs.Common.{◌≡◌, drop}
-use Rattle.actx_parse.specs.View.{stmts_view}
+use Rattle.actx_ast.specs.View.{stmts_view}
 use Rattle.actx_top.specs.State.{with_names}
 use Rattle.actx_top.proofs.machine.statements.declare_list.Given as goal
 

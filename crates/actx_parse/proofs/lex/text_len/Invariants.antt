@@ -1,6 +1,0 @@
-use Rattle.std.proofs.Common.{◌≡◌, ℕ, ◌<◌, get_or, true}
-use Rattle.actx_parse.specs.Lexical.{is_text_char}
-use Rattle.actx_parse.proofs.lex.text_len.Given as goal
-
-abbrev pub invariant-loop-i : goal.invariant-loop-i
-invariant-loop-i l = (k : ℕ) → k < l.i → is_text_char (get_or l.text k 0) ≡ true
