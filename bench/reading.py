@@ -4,10 +4,10 @@
   bench/reading.py [PROGRAM]        PROGRAM is crates/actx/out/actx where none is given
 
 Each kind of text comes at 64 KiB, 256 KiB and 1 MiB: mixed statements, deep ones (nests of 190 levels), one object of many
-properties, one scope of many names. A text with forms that don't run yet ends as 13 NotYet (status 3), which comes behind the
-static rules. Last a program is run whose emitted text is printed and parsed again: it is more than three times as long, 3.6 MiB for the longest. For each: the
-best of three wall times, the peak memory, the time per byte; and by how much the time per byte grows. Where node is on the
-machine, its --check of the same text stands beside it."""
+properties, one scope of many names. A text with forms that don't run yet ends as 13 NotYet (status 3), which comes behind
+the static rules. Last a program is run whose emitted text is printed and parsed again: it is more than four times as long,
+4.3 MiB for the longest. For each: the best of three wall times, the peak memory, the time per byte; and by how much the time
+per byte grows. Where node is on the machine, its --check of the same text stands beside it."""
 import os, shutil, subprocess, sys, tempfile, time
 
 SIZES = (65_536, 262_144, 1_048_576)
@@ -51,7 +51,7 @@ def wide_scope(size):
 
 def emitted(size):
     head = "const a = 1, b = 2, log = x => x;\nconst f = () => {\n"
-    return head + filled(size - len(head) - 3, lambda k: f"log(a+{k % 97}*(b-1),'{chr(1) * 14}',a,b);\n") + "};\n"
+    return head + filled(size - len(head) - 3, lambda k: f"log(a+{k % 97}*(b-1),'{chr(1) * 32}',a,b);\n") + "};\n"
 
 
 def measured(words):
