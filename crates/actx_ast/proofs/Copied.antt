@@ -1,7 +1,7 @@
 -- The lists of a copy: the last first, and a node made of its own parts.
 use Rattle.std.proofs.Common.{◌≡◌, ◌+◌, List, [], ◌∷◌, ◌++◌, refl, ap, arith, ◌∙◌}
 use Rattle.actx_ast.specs.Copies.{Seen, a_stmt, an_expr, built, catch_onto, clauses_end, code_onto, consts_end, copied, copied_onto, copy_seen, expr_made, expr_onto, exprs_end, init_onto, key_onto, last_onto, lets_end, made, maybe_onto, maybe_stmt_onto, prop_key_onto, properties_end, stmt_made, stmt_onto, stmts_end, waiting, waiting_onto, with_catch, with_code, with_init, with_key, with_last, with_maybe, with_maybe_stmt, with_prop_key, work_seen, work_weigh, work_weight}
-use Rattle.actx_ast.specs.Tree as t
+use Rattle.actx_grammar.specs.Tree as t
 use Rattle.actx_ast.specs.View.{clause_view, clauses_view, const_view, consts_view, expr_view, exprs_view, let_view, lets_view, properties_view, property_view, stmt_view, stmts_view}
 use Rattle.actx_ast.specs.declared.copy.done.Copied.{Copied}
 use Rattle.actx_ast.specs.declared.copy.order.Node.{Node}

@@ -1,11 +1,11 @@
 -- How deep a form goes, with its parentheses and without.
 use Rattle.std.proofs.Common.{◌≡◌, ℕ, suc, min, max, ◌<◌, ◌≤◌, List, [], ◌∷◌, length, drop, get_or, refl, sym, ◌∙◌, ap, nat_lt, arith}
-use Rattle.actx_ast.specs.declared.operators.Form.{Form}
-use Rattle.actx_ast.specs.declared.operators.Form.TheVariants as f
+use Rattle.actx_grammar.specs.declared.operators.Form.{Form}
+use Rattle.actx_grammar.specs.declared.operators.Form.TheVariants as f
 use Rattle.actx_ast.specs.declared.tree.Expr.{Expr}
-use Rattle.actx_ast.specs.Depth.{with_parens, depth, depth_list}
-use Rattle.actx_ast.specs.Spell.{Start, within}
-use Rattle.actx_ast.specs.Tree as t
+use Rattle.actx_grammar.specs.Depth.{with_parens, depth, depth_list}
+use Rattle.actx_grammar.specs.Spell.{Start, within}
+use Rattle.actx_grammar.specs.Tree as t
 use Rattle.actx_ast.specs.View.{expr_view, exprs_view}
 
 pub form_level : (st : Start) (form : Form) (es : t.Exprs) (l : ℕ) → with_parens (nat_lt 11 l) (depth (within (nat_lt 11 l) st) (t.Built form es) 11) ≡ depth st (t.Built form es) l

@@ -2,7 +2,7 @@
 use Rattle.std.proofs.Common.{◌≡◌, ◌+◌, List, [], ◌∷◌, ◌++◌, map, ap, sym, ◌∙◌}
 use Rattle.actx_ast.specs.Apart.{clause_work, const_work, expr_work, let_work, listed, property_work, stmt_work}
 use Rattle.actx_ast.specs.Copies.{Seen, a_stmt, an_expr, built, catch_onto, clauses_end, consts_end, expr_made, expr_onto, exprs_end, init_onto, last_onto, lets_end, maybe_onto, properties_end, stmt_made, stmt_onto, stmts_end, with_catch, with_init, with_last, with_maybe}
-use Rattle.actx_ast.specs.Tree as t
+use Rattle.actx_grammar.specs.Tree as t
 use Rattle.actx_ast.specs.View.{clause_view, clauses_view, const_view, consts_view, expr_view, exprs_view, let_view, lets_view, properties_view, property_view, stmt_view, stmts_view}
 use Rattle.actx_ast.proofs.Copied.{expr_again, stmt_again, exprs_last, stmts_last, properties_last, lets_last, consts_last, clauses_last}
 use Rattle.actx_ast.proofs.Parts.{listed_last}

@@ -3,13 +3,13 @@ use Rattle.std.proofs.Common.{◌≡◌, ◌↔◌, ℕ, suc, ◌+◌, ◌<◌, 
 use Rattle.std.proofs.lemmas.Bool.Decides.{nat_tests}
 use Rattle.std.proofs.lemmas.Grind.{common_steps}
 use Rattle.std.proofs.lemmas.List.{at_drop_more}
-use Rattle.actx_ast.specs.declared.side.Side.{Side}
+use Rattle.actx_grammar.specs.declared.side.Side.{Side}
 use Rattle.actx_ast.specs.declared.tree.Clause.{Clause}
 use Rattle.actx_ast.specs.declared.tree.ConstItem.{ConstItem}
 use Rattle.actx_ast.specs.declared.tree.LetItem.{LetItem}
 use Rattle.actx_ast.specs.Clauses.{DefaultLast, EachOn}
-use Rattle.actx_ast.specs.Sides.{ClausesOn}
-use Rattle.actx_ast.specs.Tree.{Clauses, Stmts, no_clauses, clause, no_lets, no_consts}
+use Rattle.actx_grammar.specs.Sides.{ClausesOn}
+use Rattle.actx_grammar.specs.Tree.{Clauses, Stmts, no_clauses, clause, no_lets, no_consts}
 use Rattle.actx_ast.specs.View.{clause_view, clauses_view, lets_view, consts_view}
 
 joined : (side : Side) (cs : Clauses) → DefaultLast cs → EachOn side cs → ClausesOn side cs

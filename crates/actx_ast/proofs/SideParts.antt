@@ -1,14 +1,14 @@
 -- Parts of a form, as the code's lists have them.
 use Rattle.std.proofs.Common.{◌≡◌, ◌↔◌, ◌==◌, ℕ, suc, Bool, true, not, List, [], ◌∷◌, length, IsTrue, refl, sym, ap, ◌∙◌, subst, rules}
-use Rattle.actx_ast.specs.declared.operators.Form.{Form}
-use Rattle.actx_ast.specs.declared.operators.Form.TheVariants as f
-use Rattle.actx_ast.specs.declared.side.Side.{Side}
-use Rattle.actx_ast.specs.declared.side.Side.TheVariants.{Source, Plain}
+use Rattle.actx_grammar.specs.declared.operators.Form.{Form}
+use Rattle.actx_grammar.specs.declared.operators.Form.TheVariants as f
+use Rattle.actx_grammar.specs.declared.side.Side.{Side}
+use Rattle.actx_grammar.specs.declared.side.Side.TheVariants.{Source, Plain}
 use Rattle.actx_ast.specs.declared.tree.Expr.{Expr}
-use Rattle.actx_ast.specs.Forms.{HasWords, Suits}
-use Rattle.actx_ast.specs.Grammar.{count}
-use Rattle.actx_ast.specs.Sides.{IsFormOf}
-use Rattle.actx_ast.specs.Tree.{Exprs}
+use Rattle.actx_grammar.specs.Forms.{HasWords, Suits}
+use Rattle.actx_grammar.specs.Grammar.{count}
+use Rattle.actx_grammar.specs.Sides.{IsFormOf}
+use Rattle.actx_grammar.specs.Tree.{Exprs}
 use Rattle.actx_ast.specs.View.{exprs_view}
 
 pub count_view : (es : List Expr) → count (exprs_view es) ≡ length es

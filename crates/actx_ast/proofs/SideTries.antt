@@ -1,8 +1,8 @@
 -- A `try` is of a side if its parts are.
 use Rattle.std.proofs.Common.{◌≡◌, ◌↔◌, Bool, true, false, List, ℕ, Option, IsTrue, sym, subst}
-use Rattle.actx_ast.specs.declared.side.Side.{Side}
-use Rattle.actx_ast.specs.Sides.{StmtOn, StmtsOn, CatchOn}
-use Rattle.actx_ast.specs.Tree.{catch, no_catch, no_last, last, Stmt, Stmts, Try}
+use Rattle.actx_grammar.specs.declared.side.Side.{Side}
+use Rattle.actx_grammar.specs.Sides.{StmtOn, StmtsOn, CatchOn}
+use Rattle.actx_grammar.specs.Tree.{catch, no_catch, no_last, last, Stmt, Stmts, Try}
 
 seen_as : (side : Side) (st try : Stmt) (q : Bool) → st ≡ try → IsTrue q ↔ StmtOn side try → IsTrue q ↔ StmtOn side st
 seen_as side st try q e h = subst (λ s. IsTrue q ↔ StmtOn side s) (sym e) h

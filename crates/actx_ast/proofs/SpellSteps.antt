@@ -1,26 +1,17 @@
--- Steps of spelling: a word that is not reserved, a name more at the end, a clause before others.
+-- Steps of spelling: a name more at the end, a clause before others.
 use Rattle.std.proofs.Common.{◌≡◌, ◌≢◌, ℕ, ◌==◌, Bool, true, false, List, [], ◌∷◌, ◌++◌, Option, Some, None, Result, Ok, Err, refl, sym, ◌∙◌, ap}
 use Rattle.std.proofs.lemmas.Bool.{cond-false, false_from_ne_true}
 use Rattle.std.proofs.lemmas.List.{append-nil}
 use Rattle.std.specs.Prelude.{OnOk}
 use Rattle.std.specs.Cmp.Lexicographic.{pointwise, same_text}
-use Rattle.actx_ast.specs.declared.token.Keyword.{Keyword}
-use Rattle.actx_ast.specs.declared.token.Keyword.TheVariants as k
-use Rattle.actx_ast.specs.declared.token.Sign.TheVariants as s
-use Rattle.actx_ast.specs.declared.token.TokenKind.{TokenKind}
-use Rattle.actx_ast.specs.declared.token.TokenKind.TheVariants as t
-use Rattle.actx_ast.specs.Spell.{word_among, word_token, spell_more_names, spell_clauses, spell_program}
-use Rattle.actx_ast.specs.Tree.{Clauses, clause, no_clauses, Stmts}
-use Rattle.actx_ast.specs.Words.{keyword_text, keywords}
-
-words_free : (ws : List Keyword) (x : List ℕ) → ((q : Keyword) → x ≢ keyword_text q) → word_among ws x ≡ t.Name x
-words_free [] x h = refl
-words_free (w ∷ ws) x h =
-    let apart : pointwise ◌==◌ (keyword_text w) x ≡ false = false_from_ne_true (pointwise ◌==◌ (keyword_text w) x) (λ e. h w (sym (same_text (keyword_text w) x (sym e)))) in
-    cond-false (pointwise ◌==◌ (keyword_text w) x) (t.Keyword w) (word_among ws x) apart ∙ words_free ws x h
-
-pub word_free : (x : List ℕ) → ((q : Keyword) → x ≢ keyword_text q) → word_token x ≡ t.Name x
-word_free x h = words_free keywords x h
+use Rattle.actx_grammar.specs.declared.token.Keyword.{Keyword}
+use Rattle.actx_grammar.specs.declared.token.Keyword.TheVariants as k
+use Rattle.actx_grammar.specs.declared.token.Sign.TheVariants as s
+use Rattle.actx_grammar.specs.declared.token.TokenKind.{TokenKind}
+use Rattle.actx_grammar.specs.declared.token.TokenKind.TheVariants as t
+use Rattle.actx_grammar.specs.Spell.{word_among, word_token, spell_more_names, spell_clauses, spell_program}
+use Rattle.actx_grammar.specs.Tree.{Clauses, clause, no_clauses, Stmts}
+use Rattle.actx_grammar.specs.Words.{keyword_text, keywords}
 
 pub more_names_last : (xs : List (List ℕ)) (x : List ℕ) → spell_more_names (xs ++ x ∷ []) ≡ spell_more_names xs ++ t.Sign s.Comma ∷ t.Name x ∷ []
 more_names_last [] x = refl

@@ -1,14 +1,14 @@
 -- An expression with its parentheses is the expression without them, between them; and the last piece is spelled first.
 use Rattle.std.proofs.Common.{◌≡◌, ℕ, ◌+◌, List, [], ◌∷◌, ◌++◌, Bool, true, false, nat_lt, refl, sym, ap, ◌∙◌, arith}
-use Rattle.actx_ast.specs.declared.operators.BinaryOp.TheVariants as o
-use Rattle.actx_ast.specs.declared.operators.Form.{Form}
-use Rattle.actx_ast.specs.declared.operators.Form.TheVariants as f
-use Rattle.actx_ast.specs.declared.operators.FunctionKind.TheVariants as k
-use Rattle.actx_ast.specs.declared.operators.LogicOp.TheVariants as g
+use Rattle.actx_grammar.specs.declared.operators.BinaryOp.TheVariants as o
+use Rattle.actx_grammar.specs.declared.operators.Form.{Form}
+use Rattle.actx_grammar.specs.declared.operators.Form.TheVariants as f
+use Rattle.actx_grammar.specs.declared.operators.FunctionKind.TheVariants as k
+use Rattle.actx_grammar.specs.declared.operators.LogicOp.TheVariants as g
 use Rattle.actx_ast.specs.declared.spell.Work.{Work}
-use Rattle.actx_ast.specs.declared.token.TokenKind.{TokenKind}
-use Rattle.actx_ast.specs.Spell.{Start, inner, body, statement, within, in_parens, round, spell}
-use Rattle.actx_ast.specs.Tree.{Expr, Num, Text, Truth, Null, Undefined, This, Named, Unary, Binary, Logic, Choice, SetName, SetMember, Change, Bump, Member, Call, Object, Function, Yield, YieldAll, Await, Built, none, also, no_expr, some_expr, code}
+use Rattle.actx_grammar.specs.declared.token.TokenKind.{TokenKind}
+use Rattle.actx_grammar.specs.Spell.{Start, inner, body, statement, within, in_parens, round, spell}
+use Rattle.actx_grammar.specs.Tree.{Expr, Num, Text, Truth, Null, Undefined, This, Named, Unary, Binary, Logic, Choice, SetName, SetMember, Change, Bump, Member, Call, Object, Function, Yield, YieldAll, Await, Built, none, also, no_expr, some_expr, code}
 use Rattle.actx_ast.specs.Unspelled.{needs_parens, bare, text, rest_onto, rest_of, weight, weigh}
 
 -- with its parentheses

@@ -1,9 +1,9 @@
 -- Clauses of a switch: where a default stands, and what each of them has.
 use Rattle.std.specs.Prelude.{ℕ, ◌≤◌, Option, Some, None}
-use Rattle.actx_ast.specs.declared.side.Side.{Side}
-use Rattle.actx_ast.specs.Sides.{StmtsOn}
-use Rattle.actx_ast.specs.Tree.{Clauses, no_clauses, clause}
-use Rattle.actx_ast.specs.Words.{greatest_number}
+use Rattle.actx_grammar.specs.declared.side.Side.{Side}
+use Rattle.actx_grammar.specs.Sides.{StmtsOn}
+use Rattle.actx_grammar.specs.Tree.{Clauses, no_clauses, clause}
+use Rattle.actx_grammar.specs.Words.{greatest_number}
 
 -- a default stands last
 abbrev pub DefaultLast : Clauses → Type 0

@@ -2,7 +2,7 @@
 use Rattle.std.specs.Prelude.{ℕ, ◌+◌, ◌*◌, List, [], ◌∷◌, map}
 use Rattle.actx_ast.specs.Apart.{catcher_step, clause_step, clause_work, const_step, const_work, expr_step, expr_work, function_step, init_step, key_step, let_step, let_work, listed, prop_key_step, property_step, property_work, stmt_step, stmt_work}
 use Rattle.actx_ast.specs.declared.tree.PropKey.{PropKey, fold-PropKey}
-use Rattle.actx_ast.specs.Tree as t
+use Rattle.actx_grammar.specs.Tree as t
 use Rattle.actx_ast.specs.View.{SeenClause, SeenConst, SeenLet, SeenProperty, clause_view, clauses_view, const_view, consts_view, expr_view, exprs_view, let_view, lets_view, properties_view, property_view, stmt_view, stmts_view}
 use Rattle.actx_ast.specs.declared.copy.done.Copied.{Copied}
 use Rattle.actx_ast.specs.declared.copy.done.Copied.TheVariants as c

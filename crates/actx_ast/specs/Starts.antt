@@ -1,6 +1,6 @@
 -- The beginning of a printed statement, as the code tells it.
 use Rattle.std.specs.Prelude.{Bool, true, false}
-use Rattle.actx_ast.specs.Spell.{Start, inner, statement}
+use Rattle.actx_grammar.specs.Spell.{Start, inner, statement}
 
 -- what stands before an expression: nothing where a statement begins with it
 abbrev pub start_of : Bool → Start

@@ -1,17 +1,17 @@
 -- What is left to spell: pieces, the last of them first.
 use Rattle.std.specs.Prelude.{ℕ, suc, ◌+◌, List, [], ◌∷◌, ◌++◌, Bool, true, false, nat_lt, codes}
-use Rattle.actx_ast.specs.declared.operators.Form.TheVariants.{CallWith}
+use Rattle.actx_grammar.specs.declared.operators.Form.TheVariants.{CallWith}
 use Rattle.actx_ast.specs.declared.spell.Work.{Work}
 use Rattle.actx_ast.specs.declared.spell.Work.TheVariants as w
-use Rattle.actx_ast.specs.declared.token.Keyword.TheVariants as k
-use Rattle.actx_ast.specs.declared.token.Sign.TheVariants as s
-use Rattle.actx_ast.specs.declared.token.TokenKind.{TokenKind}
-use Rattle.actx_ast.specs.declared.token.TokenKind.TheVariants as t
-use Rattle.actx_ast.specs.Forms.{unary_word, level_of, sign_of, bump_sign, form_words}
+use Rattle.actx_grammar.specs.declared.token.Keyword.TheVariants as k
+use Rattle.actx_grammar.specs.declared.token.Sign.TheVariants as s
+use Rattle.actx_grammar.specs.declared.token.TokenKind.{TokenKind}
+use Rattle.actx_grammar.specs.declared.token.TokenKind.TheVariants as t
+use Rattle.actx_grammar.specs.Forms.{unary_word, level_of, sign_of, bump_sign, form_words}
 use Rattle.actx_ast.specs.Sizes.{expr_size, exprs_size, properties_size, lets_size, consts_size, stmt_size, stmts_size, clauses_size}
-use Rattle.actx_ast.specs.Spell.{Start, inner, begins, wrapped, round, braced, logic_level, left_level, right_level, logic_sign, change_sign, spell_head, spell, spell_key, spell_list, spell_more, spell_properties, spell_more_properties, spell_more_lets, spell_more_consts, spell_stmt, spell_program, spell_clauses}
+use Rattle.actx_grammar.specs.Spell.{Start, inner, begins, wrapped, round, braced, logic_level, left_level, right_level, logic_sign, change_sign, spell_head, spell, spell_key, spell_list, spell_more, spell_properties, spell_more_properties, spell_more_lets, spell_more_consts, spell_stmt, spell_program, spell_clauses}
 use Rattle.actx_ast.specs.Starts.{start_of}
-use Rattle.actx_ast.specs.Tree as e
+use Rattle.actx_grammar.specs.Tree as e
 use Rattle.actx_ast.specs.View.{expr_view, exprs_view, properties_view, lets_view, consts_view, stmt_view, stmts_view, clauses_view}
 
 -- whether an expression stands in parentheses at a place and a level

@@ -1,6 +1,6 @@
 -- What the code's trees stand for.
 use Rattle.std.specs.Prelude.{ℕ, List, [], ◌∷◌, map, Option, Some, None, option_map}
-use Rattle.actx_ast.specs.Tree as t
+use Rattle.actx_grammar.specs.Tree as t
 use Rattle.actx_ast.specs.declared.tree.Expr.{Expr, fold-Expr}
 use Rattle.actx_ast.specs.declared.tree.Expr.TheOpen.{Expr-F, ForInit-F, Key-F, PropKey-F, Stmt-F, Catcher-F, Clause-F, ConstItem-F, Function-F, LetItem-F, Property-F}
 use Rattle.actx_ast.specs.declared.tree.ForInit.{ForInit, fold-ForInit}

@@ -1,15 +1,15 @@
 //! How deep a program's own tokens go: `( a + b ) * c ;` goes 5 levels deep, as a statement, a product, parentheses, a sum and a name.
 
 ghost use Rattle.std.specs.Prelude.{◌≡◌, drop, min, max, suc, option_map, ℕ};
-ghost use Rattle.actx_ast.specs.Depth as spec;
-ghost use Rattle.actx_ast.specs.Spell.{inner};
+ghost use Rattle.actx_grammar.specs.Depth as spec;
+ghost use Rattle.actx_grammar.specs.Spell.{inner};
 ghost use Rattle.actx_ast.specs.Starts.{start_of};
-ghost use Rattle.actx_ast.specs.Tree as tree;
+ghost use Rattle.actx_grammar.specs.Tree as tree;
 ghost use Rattle.actx_ast.specs.View.{catch_of, catcher_view, clause_view, clauses_view, const_view, consts_view, expr_view, exprs_view, function_view, init_view, key_view, let_view, lets_view, maybe_expr, maybe_stmt, program_view, prop_key_view, properties_view, property_view, stmt_view, stmts_view};
-ghost use Rattle.actx_ast.specs.declared.operators.Form.TheVariants as Form;
+ghost use Rattle.actx_grammar.specs.declared.operators.Form.TheVariants as Form;
 
 use super::levels::{inside, is_wrapped, left_level, level_of, logic_level, right_level};
-use super::operators::Form;
+use actx_grammar::operators::Form;
 use super::tree::{
     Catcher, Clause, ConstItem, Expr, ForInit, Function, Key, LetItem, Program, PropKey, Property,
     Stmt,

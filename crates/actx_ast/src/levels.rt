@@ -1,12 +1,12 @@
 //! How tightly operators bind, and where an expression needs parentheses: `a * (b + c)` (ECMA-262, 13).
 
 ghost use Rattle.std.specs.Prelude.{◌≡◌, ◌≤◌};
-ghost use Rattle.actx_ast.specs.Forms as forms;
-ghost use Rattle.actx_ast.specs.Spell as spec;
+ghost use Rattle.actx_grammar.specs.Forms as forms;
+ghost use Rattle.actx_grammar.specs.Spell as spec;
 ghost use Rattle.actx_ast.specs.Starts.{start_of};
 ghost use Rattle.actx_ast.specs.View.{expr_view};
 
-use super::operators::{BinaryOp, FunctionKind, LogicOp};
+use actx_grammar::operators::{BinaryOp, FunctionKind, LogicOp};
 use super::tree::Expr;
 
 /// The level of an operator of two operands.

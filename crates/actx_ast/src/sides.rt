@@ -2,18 +2,18 @@
 
 ghost use Rattle.std.specs.Prelude.{◌↔◌, IsTrue, option_map};
 ghost use Rattle.actx_ast.specs.Clauses.{EachOn, IsNumber};
-ghost use Rattle.actx_ast.specs.Grammar.{IsBody};
-ghost use Rattle.actx_ast.specs.Names.{IsBinding};
-ghost use Rattle.actx_ast.specs.Sides.{CatchOn, ClausesOn, ConstsOn, ExprOn, ExprsOn, InitOn, KeyOn, LetsOn, MaybeOn, PropertiesOn, PropKeyOn, StmtOn, StmtsOn};
-ghost use Rattle.actx_ast.specs.Tree as tree;
+ghost use Rattle.actx_grammar.specs.Grammar.{IsBody};
+ghost use Rattle.actx_grammar.specs.Names.{IsBinding};
+ghost use Rattle.actx_grammar.specs.Sides.{CatchOn, ClausesOn, ConstsOn, ExprOn, ExprsOn, InitOn, KeyOn, LetsOn, MaybeOn, PropertiesOn, PropKeyOn, StmtOn, StmtsOn};
+ghost use Rattle.actx_grammar.specs.Tree as tree;
 ghost use Rattle.actx_ast.specs.View.{clauses_view, consts_view, expr_view, exprs_view, function_view, init_view, key_view, lets_view, maybe_expr, catcher_view, clause_view, const_view, let_view, property_view, program_view, prop_key_view, properties_view, stmt_view, stmts_view};
-ghost use Rattle.actx_ast.specs.declared.side.Side.TheVariants as Side;
+ghost use Rattle.actx_grammar.specs.declared.side.Side.TheVariants as Side;
 
 mod nodes;
 
-use super::forms::{changes, is_declared, is_shape};
-use super::names::{are_bindings, is_binding, is_key, is_member_word, is_own_name, is_reference};
-use super::side::Side;
+use actx_grammar::forms::{changes, is_declared, is_shape};
+use actx_grammar::names::{are_bindings, is_binding, is_key, is_member_word, is_own_name, is_reference};
+use actx_grammar::side::Side;
 use super::tree::{
     Catcher, Clause, ConstItem, Expr, ForInit, Function, Key, LetItem, Program, PropKey, Property,
     Stmt,

@@ -2,7 +2,7 @@
 //! a list of its own, so that no depth of a program runs out of stack.
 
 ghost use Rattle.std.specs.Prelude.{◌≡◌, ◌<◌, ◌+◌, ◌++◌, ◌∷◌, [], OnOk, IfOk};
-ghost use Rattle.actx_ast.specs.Spell as spec;
+ghost use Rattle.actx_grammar.specs.Spell as spec;
 ghost use Rattle.actx_ast.specs.Unspelled.{rest_of, text, weigh, weight};
 ghost use Rattle.actx_ast.specs.View.{program_view};
 
@@ -17,8 +17,8 @@ mod stmts;
 #[cfg(test)]
 mod tests;
 
-use super::operators::Form;
-use super::token::{Keyword, Sign, TokenKind};
+use actx_grammar::operators::Form;
+use actx_grammar::token::{Keyword, Sign, TokenKind};
 use super::tree::{Clause, ConstItem, Expr, Function, LetItem, Program, Property, Stmt};
 use actx_data::NoMemory;
 use blocks::clauses;

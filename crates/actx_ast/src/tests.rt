@@ -1,7 +1,7 @@
 //! Trees of each kind of node, dropped, and names, copied.
 
-use crate::name::Name;
-use crate::operators::{BinaryOp, Form, FunctionKind, LogicOp, UnaryOp};
+use actx_grammar::name::Name;
+use actx_grammar::operators::{BinaryOp, Form, FunctionKind, LogicOp, UnaryOp};
 use crate::tree::{
     Catcher, Clause, ConstItem, Expr, ForInit, Function, Key, LetItem, PropKey, Property, Stmt,
 };

@@ -2,8 +2,8 @@
 
 mod drop;
 
-use super::name::Name;
-use super::operators::{BinaryOp, Form, FunctionKind, LogicOp, UnaryOp};
+use actx_grammar::name::Name;
+use actx_grammar::operators::{BinaryOp, Form, FunctionKind, LogicOp, UnaryOp};
 use actx_data::Units;
 use drop::{Part, run};
 

@@ -9,13 +9,13 @@ use Rattle.std.proofs.lemmas.List.{append_assoc, length-append, take_at, drop_at
 use Rattle.std.proofs.lemmas.List.Elements.{All-head, All-tail, All-nil, All-cons}
 use Rattle.unicode_ident.specs.Ident.{is_xid_continue}
 use Rattle.unicode_ident.proofs.IdentLemmas.{is_xid_continue-ascii}
-use Rattle.actx_ast.specs.declared.token.Keyword.{Keyword}
-use Rattle.actx_ast.specs.declared.token.Keyword.TheVariants as k
-use Rattle.actx_ast.specs.declared.token.Sign.{Sign}
-use Rattle.actx_ast.specs.declared.token.Sign.TheVariants as s
-use Rattle.actx_ast.specs.declared.token.TokenKind.{TokenKind}
-use Rattle.actx_ast.specs.declared.token.TokenKind.TheVariants as t
-use Rattle.actx_ast.specs.Words.{is_name_start, is_name_part, keyword_text, sign_text, IsName, HasForm, greatest_number}
+use Rattle.actx_grammar.specs.declared.token.Keyword.{Keyword}
+use Rattle.actx_grammar.specs.declared.token.Keyword.TheVariants as k
+use Rattle.actx_grammar.specs.declared.token.Sign.{Sign}
+use Rattle.actx_grammar.specs.declared.token.Sign.TheVariants as s
+use Rattle.actx_grammar.specs.declared.token.TokenKind.{TokenKind}
+use Rattle.actx_grammar.specs.declared.token.TokenKind.TheVariants as t
+use Rattle.actx_grammar.specs.Words.{is_name_start, is_name_part, keyword_text, sign_text, IsName, HasForm, greatest_number}
 use Rattle.actx_lex.specs.Characters.{AllPass, is_digit}
 use Rattle.actx_lex.specs.Lexical.{begins_free}
 use Rattle.actx_lex.specs.Lexeme.{Begins, may_follow}

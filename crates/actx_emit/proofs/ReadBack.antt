@@ -4,18 +4,18 @@ use Rattle.std.specs.Str.{encode_utf8_all}
 use Rattle.std.proofs.lemmas.Bool.{cond_both}
 use Rattle.std.proofs.lemmas.List.{take_at, drop_at}
 use Rattle.std.proofs.lemmas.List.Elements.{All-head, All-tail}
-use Rattle.actx_ast.specs.declared.side.Side.TheVariants.{Plain}
-use Rattle.actx_ast.specs.declared.token.TokenKind.{TokenKind}
-use Rattle.actx_ast.specs.Depth.{depth_program}
-use Rattle.actx_ast.specs.Layout.{ends_line, laid_from, laid}
-use Rattle.actx_ast.specs.Sides.{StmtsOn}
-use Rattle.actx_ast.specs.Spell.{spell_program}
-use Rattle.actx_ast.specs.Tree.{Stmts}
-use Rattle.actx_ast.specs.Words.{HasForm}
-use Rattle.actx_ast.specs.Grammar.{IsSpelled}
-use Rattle.actx_ast.proofs.SideLaws.{told_by_the_tree}
-use Rattle.actx_ast.proofs.SpellDeeper.{deeper_stmts}
-use Rattle.actx_ast.proofs.SpellLaws.{spelled_in_form, shallowest}
+use Rattle.actx_grammar.specs.declared.side.Side.TheVariants.{Plain}
+use Rattle.actx_grammar.specs.declared.token.TokenKind.{TokenKind}
+use Rattle.actx_grammar.specs.Depth.{depth_program}
+use Rattle.actx_grammar.specs.Layout.{ends_line, laid_from, laid}
+use Rattle.actx_grammar.specs.Sides.{StmtsOn}
+use Rattle.actx_grammar.specs.Spell.{spell_program}
+use Rattle.actx_grammar.specs.Tree.{Stmts}
+use Rattle.actx_grammar.specs.Words.{HasForm}
+use Rattle.actx_grammar.specs.Grammar.{IsSpelled}
+use Rattle.actx_laws.proofs.SideLaws.{told_by_the_tree}
+use Rattle.actx_laws.proofs.SpellDeeper.{deeper_stmts}
+use Rattle.actx_laws.proofs.SpellLaws.{spelled_in_form, shallowest}
 use Rattle.actx_lex.specs.declared.token.Token.{Token}
 use Rattle.actx_lex.specs.Lexical.{IsToken, IsLongest, MayFollow, Place, start, is_fresh, passed, behind, token_at, Reads, here, blank, token, Tokens}
 use Rattle.actx_lex.specs.Lexeme.{Begins}

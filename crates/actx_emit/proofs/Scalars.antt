@@ -11,10 +11,10 @@ use Rattle.ucd_table.proofs.Facts.{Stepped-everywhere}
 use Rattle.ucd_derived.proofs.BinaryLemmas.{is_xid_continue_stepped}
 use Rattle.unicode_ident.specs.Ident.{is_xid_continue}
 use Rattle.unicode_ident.proofs.Computing.{unicode_ident}
-use Rattle.actx_ast.specs.declared.token.TokenKind.{TokenKind}
-use Rattle.actx_ast.specs.declared.token.TokenKind.TheVariants as t
-use Rattle.actx_ast.specs.Layout.{ends_line}
-use Rattle.actx_ast.specs.Words.{is_name_part, IsName, HasForm, greatest_number}
+use Rattle.actx_grammar.specs.declared.token.TokenKind.{TokenKind}
+use Rattle.actx_grammar.specs.declared.token.TokenKind.TheVariants as t
+use Rattle.actx_grammar.specs.Layout.{ends_line}
+use Rattle.actx_grammar.specs.Words.{is_name_part, IsName, HasForm, greatest_number}
 use Rattle.actx_lex.specs.Characters.{AllPass}
 use Rattle.actx_lex.proofs.NameRuns.{name_parts}
 use Rattle.actx_emit.specs.Layout.{hex_digit, unit_text, quoted, token_text, gap_after, layout}

@@ -5,7 +5,7 @@ use Rattle.std.specs.Str.{encode_utf8_all}
 use Rattle.std.proofs.lemmas.Bool.{cases_eq, eq-eqb, ne_eqb, cond-false}
 use Rattle.std.proofs.lemmas.List.{drop_more, length-drop, append_assoc, append-nil}
 use Rattle.std.proofs.lemmas.Str.{encodes-append}
-use Rattle.actx_ast.specs.declared.token.TokenKind.{TokenKind}
+use Rattle.actx_grammar.specs.declared.token.TokenKind.{TokenKind}
 use Rattle.actx_emit.specs.Layout.{layout, token_text, gap_after}
 
 -- the text of what is left, which is nothing where no token is

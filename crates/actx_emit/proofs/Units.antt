@@ -2,7 +2,7 @@
 use Rattle.std.proofs.Common.{◌≡◌, ◌≢◌, inl, inr, ℕ, ◌+◌, ◌*◌, ◌/◌, ◌%◌, ◌<◌, ◌≤◌, Bool, true, false, cond, ◌&&◌, ◌||◌, List, [], ◌∷◌, ◌++◌, refl, sym, ◌∙◌, ap, subst, arith, IsTrue, All, flat_map, eqb, leb, ltb}
 use Rattle.std.proofs.lemmas.Bool.{cond_both, or_cases, or_parts, and_parts, eqb-true, eqb-false, leb-true}
 use Rattle.std.proofs.lemmas.List.Elements.{All-from_recursion, All-head, All-tail}
-use Rattle.actx_ast.specs.Words.{units_of}
+use Rattle.actx_grammar.specs.Words.{units_of}
 use Rattle.actx_lex.specs.Characters.{AllPass, is_hex, hex_value, hex_on, is_escaped, single_escape, Inside, nothing, itself, single, four_hex}
 use Rattle.actx_lex.proofs.Insides.{small_units}
 use Rattle.actx_emit.specs.Layout.{hex_digit, unit_text, quoted}

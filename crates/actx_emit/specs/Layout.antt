@@ -1,9 +1,9 @@
 -- The text of tokens: one space between two, one LF instead after `;`, `{` and `}`, and one LF at the end.
 use Rattle.std.specs.Prelude.{ℕ, ◌+◌, ◌/◌, ◌%◌, List, [], ◌∷◌, ◌++◌, ◌==◌, ◌||◌, ◌&&◌, nat_le, nat_lt, if◌then◌else◌, flat_map, decimal}
-use Rattle.actx_ast.specs.declared.token.TokenKind.{TokenKind}
-use Rattle.actx_ast.specs.declared.token.TokenKind.TheVariants as t
-use Rattle.actx_ast.specs.Layout.{ends_line}
-use Rattle.actx_ast.specs.Words.{keyword_text, sign_text}
+use Rattle.actx_grammar.specs.declared.token.TokenKind.{TokenKind}
+use Rattle.actx_grammar.specs.declared.token.TokenKind.TheVariants as t
+use Rattle.actx_grammar.specs.Layout.{ends_line}
+use Rattle.actx_grammar.specs.Words.{keyword_text, sign_text}
 
 -- a lower-case hexadecimal digit
 abbrev pub hex_digit : ℕ → ℕ

@@ -1,10 +1,10 @@
 -- What a printed text is read as.
 use Rattle.std.specs.Prelude.{◌≡◌, ℕ, List}
-use Rattle.actx_ast.specs.declared.side.Side.TheVariants.{Plain}
-use Rattle.actx_ast.specs.Grammar.{IsSpelled}
-use Rattle.actx_ast.specs.Layout.{laid}
-use Rattle.actx_ast.specs.Spell.{spell_program}
-use Rattle.actx_ast.specs.Tree.{Stmts}
+use Rattle.actx_grammar.specs.declared.side.Side.TheVariants.{Plain}
+use Rattle.actx_grammar.specs.Grammar.{IsSpelled}
+use Rattle.actx_grammar.specs.Layout.{laid}
+use Rattle.actx_grammar.specs.Spell.{spell_program}
+use Rattle.actx_grammar.specs.Tree.{Stmts}
 use Rattle.actx_lex.specs.declared.token.Token.{Token}
 use Rattle.actx_lex.specs.Lexemes.{lexemes}
 use Rattle.actx_lex.specs.Lexical.{Tokens}

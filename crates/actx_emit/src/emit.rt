@@ -2,17 +2,17 @@
 
 ghost use Rattle.std.specs.Prelude.{◌≡◌, ◌≤◌, ◌++◌, IfOk, string_bytes, if◌then◌else◌};
 ghost use Rattle.std.specs.Str.{encode_utf8_all};
-ghost use Rattle.actx_ast.specs.declared.side.Side.TheVariants.{Plain as plain_side};
-ghost use Rattle.actx_ast.specs.Depth.{depth_program};
-ghost use Rattle.actx_ast.specs.Sides.{StmtsOn};
-ghost use Rattle.actx_ast.specs.Spell.{spell_program};
+ghost use Rattle.actx_grammar.specs.declared.side.Side.TheVariants.{Plain as plain_side};
+ghost use Rattle.actx_grammar.specs.Depth.{depth_program};
+ghost use Rattle.actx_grammar.specs.Sides.{StmtsOn};
+ghost use Rattle.actx_grammar.specs.Spell.{spell_program};
 ghost use Rattle.actx_ast.specs.View.{program_view};
 ghost use Rattle.actx_emit.specs.Layout as spec;
 ghost use Rattle.actx_emit.specs.Reads.{ReadsBack};
 
 use super::text::push_token;
 use actx_ast::spell::spell;
-use actx_ast::token::{Sign, TokenKind};
+use actx_grammar::token::{Sign, TokenKind};
 use actx_ast::tree::Program;
 use actx_data::NoMemory;
 use std::alloc::Global;

@@ -4,9 +4,9 @@ ghost use Rattle.std.specs.Prelude.{◌≡◌, ◌++◌, ◌<◌, ◌/◌, ◌%�
 ghost use Rattle.std.specs.Str.{encode_utf8_all};
 ghost use Rattle.actx_emit.specs.Layout as spec;
 
-use actx_ast::name::Name;
-use actx_ast::token::TokenKind;
-use actx_ast::words::{keyword_text, sign_text};
+use actx_grammar::name::Name;
+use actx_grammar::token::TokenKind;
+use actx_grammar::words::{keyword_text, sign_text};
 use actx_data::Units;
 use std::alloc::{AllocError, Global};
 

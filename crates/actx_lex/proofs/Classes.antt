@@ -5,7 +5,7 @@ use Rattle.std.proofs.lemmas.Bool.{cases_lt, cases_Bool, cond-true, cond-false, 
 use Rattle.unicode_ident.specs.Ident.{is_xid_start, is_xid_continue}
 use Rattle.unicode_ident.proofs.Computing.{unicode_ident}
 use Rattle.unicode_ident.proofs.IdentLemmas.{is_xid_start-ascii, is_xid_continue-ascii, is_xid_start-is_xid_continue}
-use Rattle.actx_ast.specs.Words.{is_name_start, is_name_part}
+use Rattle.actx_grammar.specs.Words.{is_name_start, is_name_part}
 use Rattle.actx_lex.specs.Characters.{is_digit, is_space, is_line_end}
 
 pub data Class : Type 0 where

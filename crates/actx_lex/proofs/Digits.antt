@@ -4,7 +4,7 @@ use Rattle.std.specs.Str.Parse.{digits_value}
 use Rattle.std.specs.Char.{digit_value}
 use Rattle.std.proofs.lemmas.Bool.{cond-true, cond-false, cases_Bool, lt-leb, le-leb, leb-true}
 use Rattle.std.proofs.lemmas.Str.Parse.{digits_value-take-le}
-use Rattle.actx_ast.specs.Words.{greatest_number}
+use Rattle.actx_grammar.specs.Words.{greatest_number}
 use Rattle.actx_lex.specs.Characters.{is_digit}
 use Rattle.actx_lex.specs.Lexeme.{number_of}
 

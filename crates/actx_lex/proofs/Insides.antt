@@ -4,7 +4,7 @@ use Rattle.std.specs.List.{prefix_len}
 use Rattle.std.proofs.lemmas.Bool.{cond-true, cond-false, or_parts, and_left, and_right, or_from, ne_eqb, both_ways, le-ltb, lt-ltb, false≢true}
 use Rattle.std.proofs.lemmas.List.{append_assoc, length-append, get_or_at, take_at, drop_at}
 use Rattle.std.proofs.lemmas.List.Elements.{All-head, All-tail}
-use Rattle.actx_ast.specs.Words.{units_of}
+use Rattle.actx_grammar.specs.Words.{units_of}
 use Rattle.actx_lex.specs.declared.escapes.Piece.{Piece}
 use Rattle.actx_lex.specs.Characters.{AllPass, is_line_end, is_digit, is_hex, hex_on, single_escape, is_escaped, begins_digit, Inside, nothing, itself, single, zero, two_hex, four_hex, braced_hex, line_end, crlf}
 use Rattle.actx_lex.specs.Lexical.{IsQuote}

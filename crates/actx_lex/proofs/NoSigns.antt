@@ -2,10 +2,10 @@
 use Rattle.std.proofs.Common.{◌≡◌, inl, inr, ℕ, ◌+◌, ◌<◌, Bool, true, false, not, ◌&&◌, List, [], ◌∷◌, ◌++◌, Some, None, get_or, take, drop, refl, sym, ◌∙◌, ap, subst, arith, eqb, lit<}
 use Rattle.std.proofs.lemmas.Bool.{cond_both, eqb-true, and_parts, and_from, not-true}
 use Rattle.std.proofs.lemmas.List.{take-append-drop, drop-drop, get_or-drop}
-use Rattle.actx_ast.specs.declared.token.Sign.{Sign}
-use Rattle.actx_ast.specs.declared.token.Sign.TheVariants as s
-use Rattle.actx_ast.specs.declared.token.TokenKind.{TokenKind}
-use Rattle.actx_ast.specs.Words.{is_name_start, sign_text}
+use Rattle.actx_grammar.specs.declared.token.Sign.{Sign}
+use Rattle.actx_grammar.specs.declared.token.Sign.TheVariants as s
+use Rattle.actx_grammar.specs.declared.token.TokenKind.{TokenKind}
+use Rattle.actx_grammar.specs.Words.{is_name_start, sign_text}
 use Rattle.actx_lex.specs.Characters.{is_digit}
 use Rattle.actx_lex.specs.Lexical.{IsLongest}
 use Rattle.actx_lex.specs.Lexeme.{Begins}

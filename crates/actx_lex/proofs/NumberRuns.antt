@@ -6,9 +6,9 @@ use Rattle.std.proofs.lemmas.Bool.{false≢true, cases_eq, false_from_ne_true, b
 use Rattle.std.proofs.lemmas.List.{length-take, length-drop, get_or-take, get_or-drop}
 use Rattle.std.proofs.lemmas.List.Elements.{All-cons, All-tail, All-head, All-nil}
 use Rattle.std.proofs.lemmas.List.Sums.{prefix_len_is}
-use Rattle.actx_ast.specs.declared.token.TokenKind.{TokenKind}
-use Rattle.actx_ast.specs.declared.token.TokenKind.TheVariants as t
-use Rattle.actx_ast.specs.Words.{greatest_number, is_name_part}
+use Rattle.actx_grammar.specs.declared.token.TokenKind.{TokenKind}
+use Rattle.actx_grammar.specs.declared.token.TokenKind.TheVariants as t
+use Rattle.actx_grammar.specs.Words.{greatest_number, is_name_part}
 use Rattle.actx_lex.specs.Characters.{is_digit, AllPass}
 use Rattle.actx_lex.specs.Lexical.{IsDecimal, just_zero, digits_on, number_token, IsLexeme, begins_free, MayFollow}
 use Rattle.actx_lex.specs.Lexeme.{Begins}

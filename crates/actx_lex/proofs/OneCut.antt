@@ -3,8 +3,8 @@ use Rattle.std.proofs.Common.{◌≡◌, ℕ, ◌<◌, Bool, false, List, [], �
 use Rattle.std.proofs.lemmas.Bool.{both_ways, false_from_ne_true}
 use Rattle.std.proofs.lemmas.List.{length-append, take_at, drop_at, take-append-drop, get_or-take}
 use Rattle.std.proofs.lemmas.Str.{encodes_same}
-use Rattle.actx_ast.specs.declared.token.TokenKind.{TokenKind}
-use Rattle.actx_ast.specs.Words.{sign_text}
+use Rattle.actx_grammar.specs.declared.token.TokenKind.{TokenKind}
+use Rattle.actx_grammar.specs.Words.{sign_text}
 use Rattle.actx_lex.specs.declared.token.Token.{Token}
 use Rattle.actx_lex.specs.Lexical.{IsToken, IsLongest, MayFollow, Place, is_fresh, passed, behind, token_at, Reads, here, blank, comment, token, Nothing, IsText, OneCut, NotStuck, OneStop, begins_number}
 use Rattle.actx_lex.specs.Lexeme.{Begins, Gap, blank as gap_blank, comment as gap_comment, NoGap, NoToken}

@@ -3,7 +3,7 @@ use Rattle.std.proofs.Common.{◌≡◌, ◌≢◌, ◌⊎◌, inl, inr, ℕ, �
 use Rattle.std.proofs.lemmas.Bool.{cond_both, cond-true, cond-false, cases_Bool, ltb-true, or_parts, or_from, eqb-true, eqb-false, ne_eqb}
 use Rattle.std.proofs.lemmas.List.{append_assoc, append-nil, length-append, take-append-drop, take_at, get_or-take}
 use Rattle.std.proofs.lemmas.List.Elements.{All-nil, All-cons}
-use Rattle.actx_ast.specs.declared.token.TokenKind.TheVariants as t
+use Rattle.actx_grammar.specs.declared.token.TokenKind.TheVariants as t
 use Rattle.actx_lex.specs.declared.escapes.Piece.{Piece}
 use Rattle.actx_lex.specs.Characters.{Inside, nothing}
 use Rattle.actx_lex.specs.Lexical.{IsQuote, IsToken, text_token, IsLexeme, IsLongest}

@@ -4,7 +4,7 @@ use Rattle.std.specs.List.{prefix_len, list_all}
 use Rattle.std.proofs.lemmas.Bool.{cond_both, cond-false, or_parts, and_parts, eqb-true, eqb-false, leb-true, not-true}
 use Rattle.std.proofs.lemmas.List.{append_assoc, length-append, length-take, take-append-drop, drop_at, take_more}
 use Rattle.std.proofs.lemmas.List.Sums.{AllPass-from_list_all, prefix_len-le-length}
-use Rattle.actx_ast.specs.Words.{units_of}
+use Rattle.actx_grammar.specs.Words.{units_of}
 use Rattle.actx_lex.specs.declared.escapes.Piece.{Piece}
 use Rattle.actx_lex.specs.Characters.{AllPass, is_line_end, is_digit, is_hex, hex_on, single_escape, is_escaped, begins_digit, Inside, itself, single, zero, two_hex, four_hex, braced_hex, line_end, crlf}
 use Rattle.actx_lex.specs.Pieces.{hex_number, piece, by_number, fixed, braced, escape, piece_of, units_in}

@@ -1,7 +1,7 @@
 -- A reading goes on by a gap or a token, and stops where neither begins.
 use Rattle.std.proofs.Common.{◌≡◌, ◌<◌, ℕ, Bool, true, false, cond, List, [], ◌∷◌, ◌++◌, length, take, drop, refl, sym, ap, subst, Result, Ok, Err, IsErrAnd, IfErr}
 use Rattle.std.proofs.lemmas.List.{append-nil, take-append-drop}
-use Rattle.actx_ast.specs.declared.token.TokenKind.{TokenKind}
+use Rattle.actx_grammar.specs.declared.token.TokenKind.{TokenKind}
 use Rattle.actx_lex.specs.declared.token.Token.{Token}
 use Rattle.actx_lex.specs.declared.lex.LexFault.{LexFault}
 use Rattle.actx_lex.specs.declared.lex.LexFault.TheVariants as fault

@@ -1,8 +1,8 @@
 -- Reserved words and signs by their texts.
 use Rattle.std.proofs.Common.{◌≡◌, ℕ, cond, List, [], ◌∷◌, Option, Some, None, get_or, refl, sym, ◌∙◌, ap, bytes_eq}
-use Rattle.actx_ast.specs.declared.token.Keyword.{Keyword}
-use Rattle.actx_ast.specs.declared.token.Keyword.TheVariants as k
-use Rattle.actx_ast.specs.Words.{keyword_text}
+use Rattle.actx_grammar.specs.declared.token.Keyword.{Keyword}
+use Rattle.actx_grammar.specs.declared.token.Keyword.TheVariants as k
+use Rattle.actx_grammar.specs.Words.{keyword_text}
 use Rattle.actx_lex.proofs.Classes.{word, class_of}
 
 pub keyword_class : (q : Keyword) → class_of (get_or (keyword_text q) 0 0) ≡ word

@@ -1,8 +1,8 @@
 -- Signs by their texts.
 use Rattle.std.proofs.Common.{◌≡◌, ℕ, ◌<◌, ◌≤◌, ◌-◌, false, cond, List, [], ◌∷◌, ◌++◌, Option, Some, None, length, get_or, refl, sym, ◌∙◌, ap, bytes_eq, eqb, lit<, lit≤}
-use Rattle.actx_ast.specs.declared.token.Sign.{Sign}
-use Rattle.actx_ast.specs.declared.token.Sign.TheVariants as s
-use Rattle.actx_ast.specs.Words.{sign_text}
+use Rattle.actx_grammar.specs.declared.token.Sign.{Sign}
+use Rattle.actx_grammar.specs.declared.token.Sign.TheVariants as s
+use Rattle.actx_grammar.specs.Words.{sign_text}
 use Rattle.actx_lex.proofs.Classes.{mark, class_of}
 
 pub sign_class : (s : Sign) → class_of (get_or (sign_text s) 0 0) ≡ mark

@@ -2,9 +2,9 @@
 use Rattle.std.proofs.Common.{◌≡◌, inl, inr, ℕ, zero, suc, ◌-◌, ◌<◌, ◌≤◌, true, ◌&&◌, not, List, [], ◌∷◌, Option, Some, None, length, get_or, take, refl, sym, ◌∙◌, ap, subst, arith, eqb}
 use Rattle.std.proofs.lemmas.Bool.{cond_both, eqb-true, and_parts, cases_lt}
 use Rattle.std.proofs.lemmas.List.{get_or-take, get_or_past}
-use Rattle.actx_ast.specs.declared.token.Sign.{Sign}
-use Rattle.actx_ast.specs.declared.token.Sign.TheVariants as s
-use Rattle.actx_ast.specs.Words.{sign_text}
+use Rattle.actx_grammar.specs.declared.token.Sign.{Sign}
+use Rattle.actx_grammar.specs.declared.token.Sign.TheVariants as s
+use Rattle.actx_grammar.specs.Words.{sign_text}
 use Rattle.actx_lex.specs.Characters.{is_digit}
 use Rattle.actx_lex.specs.Lexeme.{longest_sign, dot_sign, question_sign, equals_sign, plus_sign, minus_sign, star_sign, not_sign, less_sign, more_sign, and_sign, or_sign}
 use Rattle.actx_lex.proofs.SignTexts.{sign_some, sign_small, sign_last}

@@ -1,6 +1,6 @@
 -- Characters of a text, and what a text in quotes stands for (ECMA-262, 12). A character is its code point.
 use Rattle.std.specs.Prelude.{◌≢◌, ℕ, ◌+◌, ◌*◌, ◌≤◌, ◌-◌, ◌/◌, ◌%◌, Bool, true, false, ◌==◌, ◌&&◌, ◌||◌, nat_le, nat_lt, IsTrue, List, [], ◌∷◌, ◌++◌, All, if◌then◌else◌}
-use Rattle.actx_ast.specs.Words.{units_of}
+use Rattle.actx_grammar.specs.Words.{units_of}
 
 abbrev pub AllPass : (ℕ → Bool) → List ℕ → Type 0
 AllPass p cs = All (λ c. IsTrue (p c)) cs

@@ -1,10 +1,10 @@
 -- How a text begins: with which token, or with what stands between tokens.
 use Rattle.std.specs.Prelude.{◌≡◌, ℕ, ◌+◌, ◌≤◌, ◌<◌, Bool, true, false, ◌==◌, ◌&&◌, ◌||◌, not, IsTrue, List, [], ◌∷◌, ◌++◌, length, take, drop, slice_index, Option, Some, None, nat_le, if◌then◌else◌}
 use Rattle.std.specs.Str.Parse.{digits_value}
-use Rattle.actx_ast.specs.declared.token.Sign.{Sign}
-use Rattle.actx_ast.specs.declared.token.Sign.TheVariants as s
-use Rattle.actx_ast.specs.declared.token.TokenKind.{TokenKind}
-use Rattle.actx_ast.specs.Words.{greatest_number}
+use Rattle.actx_grammar.specs.declared.token.Sign.{Sign}
+use Rattle.actx_grammar.specs.declared.token.Sign.TheVariants as s
+use Rattle.actx_grammar.specs.declared.token.TokenKind.{TokenKind}
+use Rattle.actx_grammar.specs.Words.{greatest_number}
 use Rattle.actx_lex.specs.declared.lex.LexFault.{LexFault}
 use Rattle.actx_lex.specs.declared.lex.LexFault.TheVariants as fault
 use Rattle.actx_lex.specs.declared.token.Token.{Token}

@@ -1,6 +1,6 @@
 -- Tokens as the grammar sees them.
 use Rattle.std.specs.Prelude.{List, map}
-use Rattle.actx_ast.specs.Lexemes.{Lexeme}
+use Rattle.actx_grammar.specs.Lexemes.{Lexeme}
 use Rattle.actx_lex.specs.declared.token.Token.{Token}
 
 abbrev pub lexeme_of : Token → Lexeme

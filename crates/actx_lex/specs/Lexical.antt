@@ -3,12 +3,12 @@
 use Rattle.std.specs.Prelude.{◌≡◌, ◌≢◌, ℕ, ◌+◌, ◌≤◌, ◌<◌, Bool, true, false, ◌==◌, ◌&&◌, ◌||◌, IsTrue, List, [], ◌∷◌, ◌++◌, length, Contains, ◌⊎◌, codes, take, if◌then◌else◌}
 use Rattle.std.specs.Str.{encode_utf8_all, all_scalars}
 use Rattle.std.specs.Str.Parse.{digits_value}
-use Rattle.actx_ast.specs.declared.token.Keyword.{Keyword}
-use Rattle.actx_ast.specs.declared.token.Sign.{Sign}
-use Rattle.actx_ast.specs.declared.token.Sign.TheVariants as s
-use Rattle.actx_ast.specs.declared.token.TokenKind.{TokenKind}
-use Rattle.actx_ast.specs.declared.token.TokenKind.TheVariants as t
-use Rattle.actx_ast.specs.Words.{keyword_text, sign_text, is_name_part, IsName, greatest_number}
+use Rattle.actx_grammar.specs.declared.token.Keyword.{Keyword}
+use Rattle.actx_grammar.specs.declared.token.Sign.{Sign}
+use Rattle.actx_grammar.specs.declared.token.Sign.TheVariants as s
+use Rattle.actx_grammar.specs.declared.token.TokenKind.{TokenKind}
+use Rattle.actx_grammar.specs.declared.token.TokenKind.TheVariants as t
+use Rattle.actx_grammar.specs.Words.{keyword_text, sign_text, is_name_part, IsName, greatest_number}
 use Rattle.actx_lex.specs.declared.token.Token.{Token}
 use Rattle.actx_lex.specs.Characters.{AllPass, is_line_end, is_space, is_digit, begins_digit, Inside}
 

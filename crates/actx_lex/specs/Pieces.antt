@@ -1,7 +1,7 @@
 -- What stands for one character between quotes (ECMA-262, 12.9.4), by the characters that a text begins with.
 use Rattle.std.specs.Prelude.{ℕ, ◌+◌, ◌==◌, ◌&&◌, ◌||◌, not, nat_le, nat_lt, List, [], length, take, drop, slice_index, Option, Some, None, if◌then◌else◌}
 use Rattle.std.specs.List.{prefix_len, list_all}
-use Rattle.actx_ast.specs.Words.{units_of}
+use Rattle.actx_grammar.specs.Words.{units_of}
 use Rattle.actx_lex.specs.declared.escapes.Piece.{Piece}
 use Rattle.actx_lex.specs.Characters.{is_line_end, is_digit, is_hex, hex_on, single_escape}
 

@@ -1,7 +1,7 @@
 //! Classes of characters (ECMA-262, 12), and the characters of a text by their index.
 
 ghost use Rattle.std.specs.Prelude.{◌≡◌, ◌<◌, ◌^◌, ◌||◌, slice_index};
-ghost use Rattle.actx_ast.specs.Words as words;
+ghost use Rattle.actx_grammar.specs.Words as words;
 ghost use Rattle.actx_lex.specs.Characters as spec;
 ghost use Rattle.actx_lex.specs.Lexical.{size, has_line_end};
 

@@ -2,8 +2,8 @@
 
 ghost use Rattle.std.specs.Prelude.{◌≡◌, ◌<◌, ◌≤◌, ◌^◌, ◌↔◌, ℕ, List, length, All, Bool, true, false, IfOk, IfErr, IsErrOf, ◌≢◌};
 ghost use Rattle.std.specs.Str.{chars};
-ghost use Rattle.actx_ast.specs.Words.{HasForm};
-ghost use Rattle.actx_ast.specs.declared.side.Side.TheVariants.{Source as source};
+ghost use Rattle.actx_grammar.specs.Words.{HasForm};
+ghost use Rattle.actx_grammar.specs.declared.side.Side.TheVariants.{Source as source};
 ghost use Rattle.actx_lex.specs.declared.token.Token.{Token};
 ghost use Rattle.actx_lex.specs.declared.lex.LexFault.TheVariants.{NoMemory as no_memory};
 ghost use Rattle.actx_lex.specs.Lexical as spec;

@@ -1,6 +1,6 @@
 //! The token that a text begins with.
 
-use actx_ast::token::TokenKind;
+use actx_grammar::token::TokenKind;
 
 /// A token that a text begins with.
 #[derive(Drop)]

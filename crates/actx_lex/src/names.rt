@@ -2,14 +2,14 @@
 
 ghost use Rattle.std.specs.Prelude.{◌≡◌, ◌≤◌, Bool, IsTrue, length, slice_index, IfOk};
 ghost use Rattle.std.specs.List.{prefix_len};
-ghost use Rattle.actx_ast.specs.Words as words;
+ghost use Rattle.actx_grammar.specs.Words as words;
 ghost use Rattle.actx_lex.specs.Lexeme.{Begins};
 
 use super::characters::is_name_part;
 use super::lexeme::Lexeme;
-use actx_ast::keywords::keyword_of;
-use actx_ast::name::Name;
-use actx_ast::token::TokenKind;
+use actx_grammar::keywords::keyword_of;
+use actx_grammar::name::Name;
+use actx_grammar::token::TokenKind;
 use actx_data::NoMemory;
 use std::alloc::Global;
 

@@ -2,14 +2,14 @@
 
 ghost use Rattle.std.specs.Prelude.{◌≡◌, ◌≤◌, Bool, IsTrue, length, slice_index, IfSome, IfNone};
 ghost use Rattle.std.specs.List.{prefix_len};
-ghost use Rattle.actx_ast.specs.Words.{HasForm};
+ghost use Rattle.actx_grammar.specs.Words.{HasForm};
 ghost use Rattle.actx_lex.specs.Characters as spec;
 ghost use Rattle.actx_lex.specs.Lexical as lexical;
 ghost use Rattle.actx_lex.specs.Lexeme.{Begins, NoToken, number_of};
 
 use super::characters::{char_at, is_digit, is_name_part};
 use super::lexeme::Lexeme;
-use actx_ast::token::TokenKind;
+use actx_grammar::token::TokenKind;
 
 /// The greatest number of a program, 2^53 - 1 (ECMA-262, 21.1.2.6).
 const GREATEST_NUMBER: u64 = 9_007_199_254_740_991;

@@ -1,14 +1,14 @@
 //! Punctuators (ECMA-262, 12.8): the longest that begins a text, where a token is made of it.
 
 ghost use Rattle.std.specs.Prelude.{◌≡◌, ◌≢◌, false, slice_index, IfSome, IfNone};
-ghost use Rattle.actx_ast.specs.Words.{is_name_start, HasForm};
+ghost use Rattle.actx_grammar.specs.Words.{is_name_start, HasForm};
 ghost use Rattle.actx_lex.specs.Characters as spec;
 ghost use Rattle.actx_lex.specs.Lexeme as lexeme;
 
 use super::characters::{char_at, is_digit};
 use super::lexeme::Lexeme;
-use actx_ast::token::{Sign, TokenKind};
-use actx_ast::words::sign_text;
+use actx_grammar::token::{Sign, TokenKind};
+use actx_grammar::words::sign_text;
 
 /// The sign that a text begins with, or `None` where the longest punctuator is none. `-->` is none where only white space
 /// and comments stand before it on its line (ECMA-262, B.1.1).

@@ -1,7 +1,7 @@
 //! Texts in quotes (ECMA-262, 12.9.4) and the UTF-16 units that they stand for: `"a\n"` is 97 and 10.
 
 ghost use Rattle.std.specs.Prelude.{◌≡◌, ◌<◌, ◌^◌, ◌++◌, Bool, length, slice_index, IfOk, IfSome, IfNone, OnOk};
-ghost use Rattle.actx_ast.specs.Words.{HasForm};
+ghost use Rattle.actx_grammar.specs.Words.{HasForm};
 ghost use Rattle.actx_lex.specs.Lexical as spec;
 ghost use Rattle.actx_lex.specs.Lexeme.{Begins, NoToken};
 ghost use Rattle.actx_lex.specs.Pieces.{units_in};
@@ -9,7 +9,7 @@ ghost use Rattle.actx_lex.specs.Pieces.{units_in};
 use super::characters::char_at;
 use super::escapes::next_piece;
 use super::lexeme::Lexeme;
-use actx_ast::token::TokenKind;
+use actx_grammar::token::TokenKind;
 use actx_data::{NoMemory, Units};
 use std::alloc::Global;
 

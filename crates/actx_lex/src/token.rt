@@ -1,7 +1,7 @@
 //! Tokens with their places in a text.
 
-pub use actx_ast::side::Side;
-use actx_ast::token::TokenKind;
+pub use actx_grammar::side::Side;
+use actx_grammar::token::TokenKind;
 
 /// A token of a text.
 #[derive(Debug, Drop)]

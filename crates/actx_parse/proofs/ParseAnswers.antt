@@ -3,20 +3,20 @@ use Rattle.std.proofs.Common.{◌≡◌, ℕ, zero, suc, ◌+◌, ◌<◌, ◌�
 use Rattle.std.specs.Prelude.{Result, IfOk, IfErr, IsErrOf, take}
 use Rattle.std.specs.List.{AllByRecursion}
 use Rattle.std.proofs.lemmas.List.Elements.{recursion_from_All, All-from_recursion}
-use Rattle.actx_ast.specs.declared.side.Side.{Side}
-use Rattle.actx_ast.specs.declared.side.Side.TheVariants.{Source, Plain}
-use Rattle.actx_ast.specs.Exact.{Begins, BeginsWithin, InForm, UpTo}
-use Rattle.actx_ast.specs.Grammar.{deepest, IsSpelled}
-use Rattle.actx_ast.specs.Lexemes.{Lexeme}
-use Rattle.actx_ast.specs.Parser.{Reason, unexpected, too_deep, too_many, parsed, refused, parse, limits, unlisted, unlimited}
-use Rattle.actx_ast.specs.Tree.{Stmts}
+use Rattle.actx_grammar.specs.declared.side.Side.{Side}
+use Rattle.actx_grammar.specs.declared.side.Side.TheVariants.{Source, Plain}
+use Rattle.actx_grammar.specs.Exact.{Begins, BeginsWithin, InForm, UpTo}
+use Rattle.actx_grammar.specs.Grammar.{deepest, IsSpelled}
+use Rattle.actx_grammar.specs.Lexemes.{Lexeme}
+use Rattle.actx_grammar.specs.Parser.{Reason, unexpected, too_deep, too_many, parsed, refused, parse, limits, unlisted, unlimited}
+use Rattle.actx_grammar.specs.Tree.{Stmts}
 use Rattle.actx_ast.specs.View.{program_view}
-use Rattle.actx_ast.specs.Words.{HasForm}
-use Rattle.actx_ast.proofs.ParseAll.{parses}
-use Rattle.actx_ast.proofs.ParseReasons.{unexpected_stops, deep_stops}
-use Rattle.actx_ast.proofs.ParseStops.{stops, refused_whole}
-use Rattle.actx_ast.proofs.ReadyFirst.{refuses_first}
-use Rattle.actx_ast.proofs.ViableParsed.{spells}
+use Rattle.actx_grammar.specs.Words.{HasForm}
+use Rattle.actx_laws.proofs.ParseAll.{parses}
+use Rattle.actx_laws.proofs.ParseReasons.{unexpected_stops, deep_stops}
+use Rattle.actx_laws.proofs.ParseStops.{stops, refused_whole}
+use Rattle.actx_laws.proofs.ReadyFirst.{refuses_first}
+use Rattle.actx_laws.proofs.ViableParsed.{spells}
 use Rattle.actx_lex.specs.declared.token.Token.{Token}
 use Rattle.actx_lex.specs.Lexical.{kinds_of}
 use Rattle.actx_parse.specs.Answers.{ArePlaces, IsTold, RefusesAt, StopsFirst}

@@ -2,12 +2,12 @@
 use Rattle.std.proofs.Common.{◌≡◌, ℕ, zero, suc, ◌≤◌, ◌+◌, List, [], ◌∷◌, length, drop, get_or, ◌<◌, Bool, true, false, ◌&&◌, refl, sym, ◌∙◌, ap, arith}
 use Rattle.std.specs.Prelude.{nat_eq}
 use Rattle.std.proofs.lemmas.Bool.Decides.{nat_tests}
-use Rattle.actx_ast.specs.declared.token.TokenKind.{TokenKind}
-use Rattle.actx_ast.specs.declared.token.TokenKind.TheVariants as t
-use Rattle.actx_ast.specs.declared.token.Keyword.TheVariants as k
-use Rattle.actx_ast.specs.declared.token.Sign.TheVariants as g
-use Rattle.actx_ast.specs.ParserOperands.{same_word, same_token, begins_with}
-use Rattle.actx_ast.proofs.ParseNames.{same_decides}
+use Rattle.actx_grammar.specs.declared.token.TokenKind.{TokenKind}
+use Rattle.actx_grammar.specs.declared.token.TokenKind.TheVariants as t
+use Rattle.actx_grammar.specs.declared.token.Keyword.TheVariants as k
+use Rattle.actx_grammar.specs.declared.token.Sign.TheVariants as g
+use Rattle.actx_grammar.specs.ParserOperands.{same_word, same_token, begins_with}
+use Rattle.actx_laws.proofs.ParseNames.{same_decides}
 use Rattle.actx_parse.specs.ParserView.{is_word_at}
 
 pub past_words : (ws : List TokenKind) (n : ℕ) (t : TokenKind) → length ws ≤ n → is_word_at ws n t ≡ false

@@ -2,11 +2,11 @@
 use Rattle.std.proofs.Common.{◌≡◌, ℕ, suc, List, [], ◌∷◌, length, true, false, refl, arith}
 use Rattle.std.specs.Prelude.{nat_eq}
 use Rattle.std.proofs.lemmas.Bool.Decides.{nat_tests}
-use Rattle.actx_ast.specs.declared.side.Side.{Side}
+use Rattle.actx_grammar.specs.declared.side.Side.{Side}
 use Rattle.actx_ast.specs.declared.tree.ConstItem.{ConstItem}
 use Rattle.actx_ast.specs.declared.tree.LetItem.{LetItem}
-use Rattle.actx_ast.specs.Parser.{at_of, let_of, const_of}
-use Rattle.actx_ast.specs.ParserState.{Frame, of_for, refuse}
+use Rattle.actx_grammar.specs.Parser.{at_of, let_of, const_of}
+use Rattle.actx_grammar.specs.ParserState.{Frame, of_for, refuse}
 use Rattle.actx_ast.specs.View.{lets_view, consts_view}
 
 some_length : (n : ℕ) → nat_eq (suc n) 0 ≡ true → ⊥

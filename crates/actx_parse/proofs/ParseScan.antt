@@ -2,14 +2,14 @@
 use Rattle.std.proofs.Common.{◌≡◌, ℕ, zero, suc, ◌+◌, ◌≤◌, ◌<◌, List, [], ◌∷◌, length, drop, get_or, Bool, true, false, Option, Some, None, cond, refl, sym, ◌∙◌, ap, subst, arith}
 use Rattle.std.specs.Prelude.{take, nat_eq}
 use Rattle.std.proofs.lemmas.Bool.Decides.{nat_tests}
-use Rattle.actx_ast.specs.declared.side.Side.{Side}
-use Rattle.actx_ast.specs.declared.side.Side.TheVariants.{Plain}
-use Rattle.actx_ast.specs.Lexemes.{Lexeme}
-use Rattle.actx_ast.specs.Parser.{step, finish, Reason, unexpected, too_deep, too_many, reason, Outcome, parsed, refused, finished, carry, limits, unlisted, unlimited, is_refused, run, parse}
-use Rattle.actx_ast.specs.ParserState.{Limits, Frame, program, in_list, Mode, start, Move, refuse, go}
-use Rattle.actx_ast.specs.Tree.{Stmts, end}
-use Rattle.actx_ast.proofs.ParseLooser.{Looser}
-use Rattle.actx_ast.proofs.ParseLooserModes.{move_kept}
+use Rattle.actx_grammar.specs.declared.side.Side.{Side}
+use Rattle.actx_grammar.specs.declared.side.Side.TheVariants.{Plain}
+use Rattle.actx_grammar.specs.Lexemes.{Lexeme}
+use Rattle.actx_grammar.specs.Parser.{step, finish, Reason, unexpected, too_deep, too_many, reason, Outcome, parsed, refused, finished, carry, limits, unlisted, unlimited, is_refused, run, parse}
+use Rattle.actx_grammar.specs.ParserState.{Limits, Frame, program, in_list, Mode, start, Move, refuse, go}
+use Rattle.actx_grammar.specs.Tree.{Stmts, end}
+use Rattle.actx_laws.proofs.ParseLooser.{Looser}
+use Rattle.actx_laws.proofs.ParseLooserModes.{move_kept}
 use Rattle.actx_lex.specs.declared.token.Token.{Token}
 use Rattle.actx_lex.specs.Lexemes.{lexeme_of, lexemes}
 use Rattle.actx_parse.specs.Scan.{Scanned, found, stopped, at_the_end, moved, scan_on, scan, is_stopped, told}

@@ -1,13 +1,13 @@
 -- What settles at a level settles further at a lower one.
 use Rattle.std.proofs.Common.{◌≡◌, ℕ, zero, suc, ◌≤◌, List, [], ◌∷◌, Bool, true, false, cond, None, refl, sym, ◌∙◌, ap, arith}
 use Rattle.std.specs.Prelude.{nat_le, max}
-use Rattle.actx_ast.specs.declared.operators.LogicOp.{LogicOp}
-use Rattle.actx_ast.specs.declared.operators.LogicOp.TheVariants.{And, Or, Coalesce}
-use Rattle.actx_ast.specs.Forms.{level_of}
-use Rattle.actx_ast.specs.ParserOperands.{at_logic, logic, mixes, tighter, unmixed}
-use Rattle.actx_ast.specs.ParserState.{Limits, Move, refuse, Frame, in_unary, in_await, in_binary, in_logic, in_other, in_set_name, in_set, in_change, in_arrow, in_yield, in_yield_all, logic_level, Settled, settled, settle}
-use Rattle.actx_ast.proofs.ParseNames.{le_true, le_from}
-use Rattle.actx_ast.specs.Tree.{Expr, Unary, Binary, Logic, Choice, SetName, SetMember, Change, Function, Yield, YieldAll, Await, Return, some_expr, code, end, next}
+use Rattle.actx_grammar.specs.declared.operators.LogicOp.{LogicOp}
+use Rattle.actx_grammar.specs.declared.operators.LogicOp.TheVariants.{And, Or, Coalesce}
+use Rattle.actx_grammar.specs.Forms.{level_of}
+use Rattle.actx_grammar.specs.ParserOperands.{at_logic, logic, mixes, tighter, unmixed}
+use Rattle.actx_grammar.specs.ParserState.{Limits, Move, refuse, Frame, in_unary, in_await, in_binary, in_logic, in_other, in_set_name, in_set, in_change, in_arrow, in_yield, in_yield_all, logic_level, Settled, settled, settle}
+use Rattle.actx_laws.proofs.ParseNames.{le_true, le_from}
+use Rattle.actx_grammar.specs.Tree.{Expr, Unary, Binary, Logic, Choice, SetName, SetMember, Change, Function, Yield, YieldAll, Await, Return, some_expr, code, end, next}
 
 level_less : (op : LogicOp) → logic_level op ≤ tighter op
 level_less And = omega arith

@@ -7,11 +7,11 @@ use Rattle.actx_ast.specs.declared.tree.Expr.{Expr}
 use Rattle.actx_ast.specs.declared.tree.LetItem.{LetItem}
 use Rattle.actx_ast.specs.declared.tree.Property.{Property}
 use Rattle.actx_ast.specs.declared.tree.Stmt.{Stmt}
-use Rattle.actx_ast.specs.Grammar.{count, with_last, with_let, with_const, with_property}
-use Rattle.actx_ast.specs.Parser.{with_stmt, with_clause}
-use Rattle.actx_ast.specs.ParserState as m
-use Rattle.actx_ast.specs.ParserState.{levels, frame_levels, role_levels}
-use Rattle.actx_ast.specs.Tree as t
+use Rattle.actx_grammar.specs.Grammar.{count, with_last, with_let, with_const, with_property}
+use Rattle.actx_grammar.specs.Parser.{with_stmt, with_clause}
+use Rattle.actx_grammar.specs.ParserState as m
+use Rattle.actx_grammar.specs.ParserState.{levels, frame_levels, role_levels}
+use Rattle.actx_grammar.specs.Tree as t
 use Rattle.actx_ast.specs.View.{expr_view, exprs_view, const_view, consts_view, let_view, lets_view, property_view, properties_view, stmt_view, stmts_view, clause_view, clauses_view}
 use Rattle.actx_parse.specs.ParserView.{frame_view, onto, stack_view}
 use Rattle.actx_parse.specs.declared.parse.state.Frame.{Frame}

@@ -1,26 +1,26 @@
 -- The walk over a tree along the tokens that spell it notes where its nodes begin.
 use Rattle.std.proofs.Common.{◌≡◌, ℕ, zero, suc, ◌+◌, List, [], ◌∷◌, ◌++◌, length, Bool, true, false, if◌then◌else◌, codes, Option, Some, None, refl, sym, ◌∙◌, ap, subst, arith, append_assoc}
 use Rattle.std.proofs.lemmas.List.{append-nil, length-append}
-use Rattle.actx_ast.specs.declared.operators.BinaryOp.{BinaryOp}
-use Rattle.actx_ast.specs.declared.operators.BinaryOp.TheVariants as ob
-use Rattle.actx_ast.specs.declared.operators.UnaryOp.{UnaryOp}
-use Rattle.actx_ast.specs.declared.operators.UnaryOp.TheVariants as ou
-use Rattle.actx_ast.specs.declared.operators.Form.{Form}
-use Rattle.actx_ast.specs.declared.operators.Form.TheVariants as fm
-use Rattle.actx_ast.specs.declared.operators.FunctionKind.{FunctionKind}
-use Rattle.actx_ast.specs.declared.side.Side.{Side}
-use Rattle.actx_ast.specs.declared.side.Side.TheVariants.{Source, Plain}
-use Rattle.actx_ast.specs.declared.token.Keyword.TheVariants as k
-use Rattle.actx_ast.specs.declared.token.Sign.TheVariants as s
-use Rattle.actx_ast.specs.declared.token.TokenKind.{TokenKind}
-use Rattle.actx_ast.specs.declared.token.TokenKind.TheVariants as t
-use Rattle.actx_ast.proofs.ParseBegins.{value_begins}
-use Rattle.actx_ast.specs.Forms.{unary_word, sign_of, bump_sign, form_words, HasWords}
-use Rattle.actx_ast.specs.Grammar.{Spells, SpellsArguments, SpellsArrow, SpellsArrowParams, SpellsBlock, SpellsBody, SpellsCatch, SpellsClauses, SpellsCoalesce, SpellsConsts, SpellsFunction, SpellsHead, SpellsInit, SpellsKey, SpellsLet, SpellsLets, SpellsList, SpellsMaybe, SpellsNames, SpellsOr, SpellsParams, SpellsPropKey, SpellsProperties, SpellsProperty, SpellsSome, SpellsStmt, SpellsStmts, sp_absent, sp_and, sp_arguments, sp_arguments_comma, sp_arrow, sp_arrow_head, sp_async, sp_async_arrow_head, sp_async_named, sp_await, sp_bare_param, sp_binary, sp_block, sp_body, sp_braces, sp_break, sp_bump_before, sp_bump_behind, sp_call, sp_call_with, sp_case, sp_catch, sp_catch_name, sp_change, sp_choice, sp_coalesce, sp_code, sp_computed, sp_const, sp_continue, sp_default, sp_do_while, sp_dot, sp_empty, sp_end, sp_false, sp_first_coalesce, sp_first_or, sp_fixed, sp_for, sp_for_of_const, sp_for_of_let, sp_form, sp_fun, sp_function, sp_generator, sp_generator_named, sp_if, sp_if_else, sp_index, sp_init_const, sp_init_let, sp_init_nothing, sp_init_value, sp_key_value, sp_let, sp_let_alone, sp_let_value, sp_listed_params, sp_member, sp_method, sp_more, sp_more_coalesce, sp_more_consts, sp_more_lets, sp_more_names, sp_more_or, sp_more_properties, sp_name, sp_name_alone, sp_next, sp_no_arguments, sp_no_clauses, sp_no_params, sp_no_properties, sp_normal, sp_normal_named, sp_null, sp_number, sp_object, sp_one, sp_one_const, sp_one_let, sp_one_name, sp_one_property, sp_or, sp_params, sp_params_comma, sp_paren, sp_present, sp_properties, sp_properties_comma, sp_return, sp_return_nothing, sp_set_member, sp_set_name, sp_short_arrow, sp_switch, sp_text, sp_this, sp_throw, sp_true, sp_try_both, sp_try_catch, sp_try_finally, sp_unary, sp_undefined, sp_undefined_alone, sp_value, sp_while, sp_yield, sp_yield_all, sp_yield_nothing, StartsBody, IsBodyStart}
-use Rattle.actx_ast.specs.Lexemes.{Lexeme, sign, keyword, lexeme, kinds}
-use Rattle.actx_ast.specs.Names.{word_of}
-use Rattle.actx_ast.specs.Places.{arguments_places, arrow_params_places, arrow_places, block_places, body_places, catch_places, clauses_places, coalesce_places, consts_places, expr_places, function_places, head_places, init_places, key_places, let_places, lets_places, list_places, maybe_places, names_places, or_places, params_places, prop_key_places, properties_places, property_places, some_places, stmt_places, stmts_places}
-use Rattle.actx_ast.specs.Tree.{Expr, Exprs, MaybeExpr, Key, PropKey, Fixed, Computed, Properties, Code, code, Function, Built, Named, Undefined, LetItems, ConstItems, Init, Stmt, Catch, Clauses, Stmts, end, next, Return, some_expr}
+use Rattle.actx_grammar.specs.declared.operators.BinaryOp.{BinaryOp}
+use Rattle.actx_grammar.specs.declared.operators.BinaryOp.TheVariants as ob
+use Rattle.actx_grammar.specs.declared.operators.UnaryOp.{UnaryOp}
+use Rattle.actx_grammar.specs.declared.operators.UnaryOp.TheVariants as ou
+use Rattle.actx_grammar.specs.declared.operators.Form.{Form}
+use Rattle.actx_grammar.specs.declared.operators.Form.TheVariants as fm
+use Rattle.actx_grammar.specs.declared.operators.FunctionKind.{FunctionKind}
+use Rattle.actx_grammar.specs.declared.side.Side.{Side}
+use Rattle.actx_grammar.specs.declared.side.Side.TheVariants.{Source, Plain}
+use Rattle.actx_grammar.specs.declared.token.Keyword.TheVariants as k
+use Rattle.actx_grammar.specs.declared.token.Sign.TheVariants as s
+use Rattle.actx_grammar.specs.declared.token.TokenKind.{TokenKind}
+use Rattle.actx_grammar.specs.declared.token.TokenKind.TheVariants as t
+use Rattle.actx_laws.proofs.ParseBegins.{value_begins}
+use Rattle.actx_grammar.specs.Forms.{unary_word, sign_of, bump_sign, form_words, HasWords}
+use Rattle.actx_grammar.specs.Grammar.{Spells, SpellsArguments, SpellsArrow, SpellsArrowParams, SpellsBlock, SpellsBody, SpellsCatch, SpellsClauses, SpellsCoalesce, SpellsConsts, SpellsFunction, SpellsHead, SpellsInit, SpellsKey, SpellsLet, SpellsLets, SpellsList, SpellsMaybe, SpellsNames, SpellsOr, SpellsParams, SpellsPropKey, SpellsProperties, SpellsProperty, SpellsSome, SpellsStmt, SpellsStmts, sp_absent, sp_and, sp_arguments, sp_arguments_comma, sp_arrow, sp_arrow_head, sp_async, sp_async_arrow_head, sp_async_named, sp_await, sp_bare_param, sp_binary, sp_block, sp_body, sp_braces, sp_break, sp_bump_before, sp_bump_behind, sp_call, sp_call_with, sp_case, sp_catch, sp_catch_name, sp_change, sp_choice, sp_coalesce, sp_code, sp_computed, sp_const, sp_continue, sp_default, sp_do_while, sp_dot, sp_empty, sp_end, sp_false, sp_first_coalesce, sp_first_or, sp_fixed, sp_for, sp_for_of_const, sp_for_of_let, sp_form, sp_fun, sp_function, sp_generator, sp_generator_named, sp_if, sp_if_else, sp_index, sp_init_const, sp_init_let, sp_init_nothing, sp_init_value, sp_key_value, sp_let, sp_let_alone, sp_let_value, sp_listed_params, sp_member, sp_method, sp_more, sp_more_coalesce, sp_more_consts, sp_more_lets, sp_more_names, sp_more_or, sp_more_properties, sp_name, sp_name_alone, sp_next, sp_no_arguments, sp_no_clauses, sp_no_params, sp_no_properties, sp_normal, sp_normal_named, sp_null, sp_number, sp_object, sp_one, sp_one_const, sp_one_let, sp_one_name, sp_one_property, sp_or, sp_params, sp_params_comma, sp_paren, sp_present, sp_properties, sp_properties_comma, sp_return, sp_return_nothing, sp_set_member, sp_set_name, sp_short_arrow, sp_switch, sp_text, sp_this, sp_throw, sp_true, sp_try_both, sp_try_catch, sp_try_finally, sp_unary, sp_undefined, sp_undefined_alone, sp_value, sp_while, sp_yield, sp_yield_all, sp_yield_nothing, StartsBody, IsBodyStart}
+use Rattle.actx_grammar.specs.Lexemes.{Lexeme, sign, keyword, lexeme, kinds}
+use Rattle.actx_grammar.specs.Names.{word_of}
+use Rattle.actx_grammar.specs.Places.{arguments_places, arrow_params_places, arrow_places, block_places, body_places, catch_places, clauses_places, coalesce_places, consts_places, expr_places, function_places, head_places, init_places, key_places, let_places, lets_places, list_places, maybe_places, names_places, or_places, params_places, prop_key_places, properties_places, property_places, some_places, stmt_places, stmts_places}
+use Rattle.actx_grammar.specs.Tree.{Expr, Exprs, MaybeExpr, Key, PropKey, Fixed, Computed, Properties, Code, code, Function, Built, Named, Undefined, LetItems, ConstItems, Init, Stmt, Catch, Clauses, Stmts, end, next, Return, some_expr}
 use Rattle.actx_parse.specs.Walk.{Group, group, Walk, walk, at, rest, places, is_sign, starts_with, has_head, step, pass, pass_if, comma, mark, mark_at, later, settle, begin, leave, close, own, own_arrow, arrow_params, params, own_name, head_words, is_arrow, by_next, spine, maybe, member_key, exprs, properties, prop_key, method, arrow_body, short, lets, let_value, consts, init, stmt, caught, finally, clauses, stmts, places_of}
 use Rattle.actx_parse.proofs.WalkSteps.{Goes, goes_end, goes_step, goes_mark, goes_before, goes_last, goes_as, Row, Spine, closed, row_as, row_before, goes_expr, in_parens, left, leaf}
 use Rattle.actx_parse.proofs.WalkRows.{goes_by, names_go, params_go, goes_no_comma, goes_comma, head_goes}

@@ -1,14 +1,14 @@
 -- The walk notes the places of nodes: arrow functions, whose own parenthesis is told from one round them.
 use Rattle.std.proofs.Common.{◌≡◌, ℕ, zero, suc, ◌+◌, List, [], ◌∷◌, ◌++◌, length, Bool, true, false, ◌||◌, Option, Some, None, refl, sym, ◌∙◌, ap, subst, arith, append_assoc}
-use Rattle.actx_ast.specs.declared.operators.FunctionKind.{FunctionKind}
-use Rattle.actx_ast.specs.declared.operators.FunctionKind.TheVariants.{Arrow, AsyncArrow}
-use Rattle.actx_ast.specs.declared.side.Side.{Side}
-use Rattle.actx_ast.specs.declared.token.Keyword.TheVariants as k
-use Rattle.actx_ast.specs.declared.token.Sign.TheVariants as s
-use Rattle.actx_ast.specs.declared.token.TokenKind.TheVariants as t
-use Rattle.actx_ast.specs.Grammar.{SpellsNames, sp_one_name, sp_more_names, SpellsParams, sp_no_params, sp_params, sp_params_comma, SpellsArrowParams, sp_bare_param, sp_listed_params, SpellsArrow, sp_arrow_head, sp_async_arrow_head}
-use Rattle.actx_ast.specs.Lexemes.{Lexeme, sign, keyword, lexeme}
-use Rattle.actx_ast.specs.Places.{arrow_params_places, arrow_places}
+use Rattle.actx_grammar.specs.declared.operators.FunctionKind.{FunctionKind}
+use Rattle.actx_grammar.specs.declared.operators.FunctionKind.TheVariants.{Arrow, AsyncArrow}
+use Rattle.actx_grammar.specs.declared.side.Side.{Side}
+use Rattle.actx_grammar.specs.declared.token.Keyword.TheVariants as k
+use Rattle.actx_grammar.specs.declared.token.Sign.TheVariants as s
+use Rattle.actx_grammar.specs.declared.token.TokenKind.TheVariants as t
+use Rattle.actx_grammar.specs.Grammar.{SpellsNames, sp_one_name, sp_more_names, SpellsParams, sp_no_params, sp_params, sp_params_comma, SpellsArrowParams, sp_bare_param, sp_listed_params, SpellsArrow, sp_arrow_head, sp_async_arrow_head}
+use Rattle.actx_grammar.specs.Lexemes.{Lexeme, sign, keyword, lexeme}
+use Rattle.actx_grammar.specs.Places.{arrow_params_places, arrow_places}
 use Rattle.actx_parse.specs.Walk.{Group, group, Walk, walk, is_sign, step, pass, mark, open_arrow, begins_params, own_arrow, params, arrow_params, head_words}
 use Rattle.actx_parse.proofs.WalkSteps.{Goes, Row, opens, goes_step, goes_before, leaf, row_as}
 use Rattle.actx_parse.proofs.WalkRows.{names_go, params_go, goes_by}

@@ -1,11 +1,11 @@
 -- A call by `.call` begins with what is called, and any other form with its words.
 use Rattle.std.proofs.Common.{◌≡◌, ◌≢◌, ◌<◌, ◌≤◌, ◌-◌, ◌∙◌, take, List, [], ◌∷◌, drop, length, refl, ap, arith, get_or}
 use Rattle.std.proofs.lemmas.List.{take_all}
-use Rattle.actx_ast.specs.declared.operators.Form.{Form}
-use Rattle.actx_ast.specs.declared.operators.Form.TheVariants as f
+use Rattle.actx_grammar.specs.declared.operators.Form.{Form}
+use Rattle.actx_grammar.specs.declared.operators.Form.TheVariants as f
 use Rattle.actx_ast.specs.declared.tree.Expr.{Expr}
-use Rattle.actx_ast.specs.Forms.{form_words}
-use Rattle.actx_ast.specs.Tree.{Exprs, none, also, Built}
+use Rattle.actx_grammar.specs.Forms.{form_words}
+use Rattle.actx_grammar.specs.Tree.{Exprs, none, also, Built}
 use Rattle.actx_ast.specs.View.{expr_view, exprs_view}
 use Rattle.actx_parse.specs.Walk.{Walk, places, own, later, settle, pass, close, spine, arguments, call_with}
 

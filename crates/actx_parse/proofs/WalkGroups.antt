@@ -1,7 +1,7 @@
 -- The groups of the code's walk, the innermost last.
 use Rattle.std.proofs.Common.{◌≡◌, ℕ, zero, suc, ◌≤◌, ◌<◌, ◌-◌, nat_lt, Bool, true, false, List, [], ◌∷◌, ◌++◌, length, slice_set, refl, ap, arith}
 use Rattle.actx_parse.specs.declared.places.groups.Group.{Group}
-use Rattle.actx_ast.specs.declared.token.Sign.TheVariants as g
+use Rattle.actx_grammar.specs.declared.token.Sign.TheVariants as g
 use Rattle.actx_parse.specs.Walk as spec
 use Rattle.actx_parse.specs.WalkView.{onto, close_to, groups}
 use Rattle.actx_parse.proofs.WalkSteps.{lt_true, lt_false, not_closed}

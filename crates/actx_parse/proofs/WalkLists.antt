@@ -1,21 +1,21 @@
 -- The walk notes the places of nodes: lists that grow at their ends, words of forms, and properties.
 use Rattle.std.proofs.Common.{◌≡◌, ℕ, zero, suc, ◌+◌, List, [], ◌∷◌, ◌++◌, length, map, Bool, true, false, ◌&&◌, if◌then◌else◌, Option, Some, None, refl, sym, ◌∙◌, ap, subst, arith, append_assoc}
 use Rattle.std.proofs.lemmas.List.{length-map, map-append}
-use Rattle.actx_ast.specs.declared.operators.Form.{Form}
-use Rattle.actx_ast.specs.declared.operators.Form.TheVariants as f
-use Rattle.actx_ast.specs.declared.operators.FunctionKind.{FunctionKind}
-use Rattle.actx_ast.specs.declared.operators.FunctionKind.TheVariants.{Normal, Arrow, Generator, Async, AsyncArrow, AsyncGenerator}
-use Rattle.actx_ast.specs.declared.side.Side.{Side}
-use Rattle.actx_ast.specs.declared.side.Side.TheVariants.{Source, Plain}
-use Rattle.actx_ast.specs.declared.token.Keyword.TheVariants as k
-use Rattle.actx_ast.specs.declared.token.Sign.TheVariants as s
-use Rattle.actx_ast.specs.declared.token.TokenKind.{TokenKind}
-use Rattle.actx_ast.specs.declared.token.TokenKind.TheVariants as t
-use Rattle.actx_ast.specs.Forms.{form_words, HasWords}
-use Rattle.actx_ast.specs.Grammar.{with_last, with_let, with_const, with_property, SpellsList, sp_one, sp_more, SpellsLets, sp_one_let, sp_more_lets, SpellsConsts, sp_one_const, sp_more_consts, SpellsSome, sp_one_property, sp_more_properties, SpellsHead, sp_normal, sp_normal_named, sp_generator, sp_generator_named, sp_async, sp_async_named}
-use Rattle.actx_ast.specs.Lexemes.{Lexeme, sign, keyword, lexeme, kinds}
-use Rattle.actx_ast.specs.Names.{key_of}
-use Rattle.actx_ast.specs.Tree.{Expr, Function, Built, Exprs, none, also, MaybeExpr, Key, PropKey, Properties, no_properties, property, code, LetItems, no_lets, let_item, ConstItems, no_consts, const_item}
+use Rattle.actx_grammar.specs.declared.operators.Form.{Form}
+use Rattle.actx_grammar.specs.declared.operators.Form.TheVariants as f
+use Rattle.actx_grammar.specs.declared.operators.FunctionKind.{FunctionKind}
+use Rattle.actx_grammar.specs.declared.operators.FunctionKind.TheVariants.{Normal, Arrow, Generator, Async, AsyncArrow, AsyncGenerator}
+use Rattle.actx_grammar.specs.declared.side.Side.{Side}
+use Rattle.actx_grammar.specs.declared.side.Side.TheVariants.{Source, Plain}
+use Rattle.actx_grammar.specs.declared.token.Keyword.TheVariants as k
+use Rattle.actx_grammar.specs.declared.token.Sign.TheVariants as s
+use Rattle.actx_grammar.specs.declared.token.TokenKind.{TokenKind}
+use Rattle.actx_grammar.specs.declared.token.TokenKind.TheVariants as t
+use Rattle.actx_grammar.specs.Forms.{form_words, HasWords}
+use Rattle.actx_grammar.specs.Grammar.{with_last, with_let, with_const, with_property, SpellsList, sp_one, sp_more, SpellsLets, sp_one_let, sp_more_lets, SpellsConsts, sp_one_const, sp_more_consts, SpellsSome, sp_one_property, sp_more_properties, SpellsHead, sp_normal, sp_normal_named, sp_generator, sp_generator_named, sp_async, sp_async_named}
+use Rattle.actx_grammar.specs.Lexemes.{Lexeme, sign, keyword, lexeme, kinds}
+use Rattle.actx_grammar.specs.Names.{key_of}
+use Rattle.actx_grammar.specs.Tree.{Expr, Function, Built, Exprs, none, also, MaybeExpr, Key, PropKey, Properties, no_properties, property, code, LetItems, no_lets, let_item, ConstItems, no_consts, const_item}
 use Rattle.actx_parse.specs.Walk.{Group, group, Walk, walk, at, rest, places, is_sign, is_async, starts_with, begins_async, has_head, is_arrow, step, pass, pass_if, comma, mark, mark_at, own, settle, later, close, leave, begin, by_next, spine, exprs, more_exprs, properties, more_properties, prop_key, method, lets, more_lets, let_value, consts, more_consts}
 use Rattle.actx_parse.proofs.WalkSteps.{Goes, goes_end, goes_step, goes_before, Row, leaf}
 

@@ -1,19 +1,19 @@
 -- The walk notes the places of nodes: properties, told by what stands behind their keys.
 use Rattle.std.proofs.Common.{◌≡◌, ℕ, zero, suc, ◌+◌, List, [], ◌∷◌, ◌++◌, length, Bool, true, false, ◌&&◌, if◌then◌else◌, Option, Some, None, refl, sym, ◌∙◌, ap, subst, arith, append_assoc}
 use Rattle.std.proofs.lemmas.List.{append-nil, length-append}
-use Rattle.actx_ast.specs.declared.operators.FunctionKind.{FunctionKind}
-use Rattle.actx_ast.specs.declared.operators.FunctionKind.TheVariants.{Normal, Arrow, Generator, Async, AsyncArrow, AsyncGenerator}
-use Rattle.actx_ast.specs.declared.side.Side.{Side}
-use Rattle.actx_ast.specs.declared.token.Keyword.TheVariants as k
-use Rattle.actx_ast.specs.declared.token.Sign.{Sign}
-use Rattle.actx_ast.specs.declared.token.Sign.TheVariants as s
-use Rattle.actx_ast.specs.declared.token.TokenKind.{TokenKind}
-use Rattle.actx_ast.specs.declared.token.TokenKind.TheVariants as t
-use Rattle.actx_ast.specs.Grammar.{SpellsPropKey, sp_fixed, sp_computed, SpellsMethodHead, sp_method_head, sp_generator_head, sp_async_head, SpellsParams, sp_no_params, sp_params, sp_params_comma, Spells}
-use Rattle.actx_ast.specs.Lexemes.{Lexeme, sign, keyword, lexeme}
-use Rattle.actx_ast.specs.Names.{key_of}
-use Rattle.actx_ast.specs.Places.{params_places}
-use Rattle.actx_ast.specs.Tree.{Expr, Function, PropKey, Fixed, Computed, Stmts, code}
+use Rattle.actx_grammar.specs.declared.operators.FunctionKind.{FunctionKind}
+use Rattle.actx_grammar.specs.declared.operators.FunctionKind.TheVariants.{Normal, Arrow, Generator, Async, AsyncArrow, AsyncGenerator}
+use Rattle.actx_grammar.specs.declared.side.Side.{Side}
+use Rattle.actx_grammar.specs.declared.token.Keyword.TheVariants as k
+use Rattle.actx_grammar.specs.declared.token.Sign.{Sign}
+use Rattle.actx_grammar.specs.declared.token.Sign.TheVariants as s
+use Rattle.actx_grammar.specs.declared.token.TokenKind.{TokenKind}
+use Rattle.actx_grammar.specs.declared.token.TokenKind.TheVariants as t
+use Rattle.actx_grammar.specs.Grammar.{SpellsPropKey, sp_fixed, sp_computed, SpellsMethodHead, sp_method_head, sp_generator_head, sp_async_head, SpellsParams, sp_no_params, sp_params, sp_params_comma, Spells}
+use Rattle.actx_grammar.specs.Lexemes.{Lexeme, sign, keyword, lexeme}
+use Rattle.actx_grammar.specs.Names.{key_of}
+use Rattle.actx_grammar.specs.Places.{params_places}
+use Rattle.actx_grammar.specs.Tree.{Expr, Function, PropKey, Fixed, Computed, Stmts, code}
 use Rattle.actx_parse.specs.Walk.{Group, group, Walk, walk, at, rest, is_sign, is_async, starts_with, begins_async, has_head, step, pass_if, mark_at, leave, begin, by_next, spine, prop_key, method, params, stmts}
 use Rattle.actx_parse.proofs.WalkSteps.{Goes, goes_end, goes_step, goes_mark, goes_before, goes_last, goes_as}
 use Rattle.actx_parse.proofs.WalkRows.{params_go}

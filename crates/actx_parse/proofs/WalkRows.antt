@@ -1,15 +1,15 @@
 -- The walk notes the places of nodes: names, parameters and heads.
 use Rattle.std.proofs.Common.{◌≡◌, ℕ, zero, suc, ◌+◌, List, [], ◌∷◌, ◌++◌, length, Bool, true, false, Option, Some, None, refl, sym, ◌∙◌, ap, subst, arith, append_assoc}
 use Rattle.std.proofs.lemmas.List.{append-nil, length-append}
-use Rattle.actx_ast.specs.declared.operators.FunctionKind.{FunctionKind}
-use Rattle.actx_ast.specs.declared.operators.FunctionKind.TheVariants.{Normal, Arrow, Generator, Async, AsyncArrow, AsyncGenerator}
-use Rattle.actx_ast.specs.declared.side.Side.{Side}
-use Rattle.actx_ast.specs.declared.token.Keyword.TheVariants as k
-use Rattle.actx_ast.specs.declared.token.Sign.TheVariants as s
-use Rattle.actx_ast.specs.declared.token.TokenKind.TheVariants as t
-use Rattle.actx_ast.specs.Grammar.{SpellsNames, sp_one_name, sp_more_names, SpellsParams, sp_no_params, sp_params, sp_params_comma, SpellsHead, sp_normal, sp_normal_named, sp_generator, sp_generator_named, sp_async, sp_async_named}
-use Rattle.actx_ast.specs.Lexemes.{Lexeme, sign, keyword, lexeme}
-use Rattle.actx_ast.specs.Places.{names_places, params_places, head_places}
+use Rattle.actx_grammar.specs.declared.operators.FunctionKind.{FunctionKind}
+use Rattle.actx_grammar.specs.declared.operators.FunctionKind.TheVariants.{Normal, Arrow, Generator, Async, AsyncArrow, AsyncGenerator}
+use Rattle.actx_grammar.specs.declared.side.Side.{Side}
+use Rattle.actx_grammar.specs.declared.token.Keyword.TheVariants as k
+use Rattle.actx_grammar.specs.declared.token.Sign.TheVariants as s
+use Rattle.actx_grammar.specs.declared.token.TokenKind.TheVariants as t
+use Rattle.actx_grammar.specs.Grammar.{SpellsNames, sp_one_name, sp_more_names, SpellsParams, sp_no_params, sp_params, sp_params_comma, SpellsHead, sp_normal, sp_normal_named, sp_generator, sp_generator_named, sp_async, sp_async_named}
+use Rattle.actx_grammar.specs.Lexemes.{Lexeme, sign, keyword, lexeme}
+use Rattle.actx_grammar.specs.Places.{names_places, params_places, head_places}
 use Rattle.actx_parse.specs.Walk.{Walk, walk, is_sign, step, pass, pass_if, comma, mark, more_names, names, params, own_name, head_words}
 use Rattle.actx_parse.proofs.WalkSteps.{Goes, goes_end, goes_step, goes_mark, goes_before, goes_last, goes_as}
 

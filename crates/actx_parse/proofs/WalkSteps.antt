@@ -2,8 +2,8 @@
 use Rattle.std.proofs.Common.{◌≡◌, ℕ, zero, suc, ◌+◌, ◌-◌, ◌≤◌, ◌<◌, nat_lt, slice_set, List, [], ◌∷◌, ◌++◌, length, Bool, true, false, ◌&&◌, if◌then◌else◌, refl, sym, ◌∙◌, ap, subst, arith, append_assoc}
 use Rattle.std.proofs.lemmas.Bool.Decides.{nat_tests}
 use Rattle.std.proofs.lemmas.List.{append-nil, length-append}
-use Rattle.actx_ast.specs.declared.token.Sign.TheVariants as s
-use Rattle.actx_ast.specs.Lexemes.{Lexeme, sign}
+use Rattle.actx_grammar.specs.declared.token.Sign.TheVariants as s
+use Rattle.actx_grammar.specs.Lexemes.{Lexeme, sign}
 use Rattle.actx_parse.specs.Walk.{Group, group, Walk, walk, at, rest, places, is_sign, step, pass, mark, later, settle, begin, leave, close_some, close, open_more, open_all, own}
 
 -- the walk passes these tokens and notes these places, which depend on where it begins

@@ -1,12 +1,12 @@
 -- What an answer says.
 use Rattle.std.specs.Prelude.{◌≡◌, ℕ, List}
-use Rattle.actx_ast.specs.declared.side.Side.{Side}
-use Rattle.actx_ast.specs.Exact.{IsFirst, IsReason}
-use Rattle.actx_ast.specs.Grammar.{IsSpelled}
-use Rattle.actx_ast.specs.Lexemes.{Lexeme}
-use Rattle.actx_ast.specs.Parser.{parse, refused, unexpected, too_deep, too_many}
-use Rattle.actx_ast.specs.Places.{stmts_places}
-use Rattle.actx_ast.specs.Tree.{Stmts}
+use Rattle.actx_grammar.specs.declared.side.Side.{Side}
+use Rattle.actx_grammar.specs.Exact.{IsFirst, IsReason}
+use Rattle.actx_grammar.specs.Grammar.{IsSpelled}
+use Rattle.actx_grammar.specs.Lexemes.{Lexeme}
+use Rattle.actx_grammar.specs.Parser.{parse, refused, unexpected, too_deep, too_many}
+use Rattle.actx_grammar.specs.Places.{stmts_places}
+use Rattle.actx_grammar.specs.Tree.{Stmts}
 use Rattle.actx_parse.specs.declared.parse.ParseFault.{ParseFault}
 use Rattle.actx_parse.specs.declared.parse.ParseFault.TheVariants as fault
 

@@ -1,12 +1,12 @@
 -- What the code's parser holds stands for.
 use Rattle.std.specs.Prelude.{ℕ, zero, suc, List, [], ◌∷◌, map, Bool, false, Option, Some, None, option_map}
-use Rattle.actx_ast.specs.Lexemes.{Lexeme}
-use Rattle.actx_ast.specs.Parser.{Standing as Settling, standing, settle_stmt, to_else}
-use Rattle.actx_ast.specs.ParserOperands.{same_token}
-use Rattle.actx_ast.specs.ParserState as m
-use Rattle.actx_ast.specs.Tree as t
+use Rattle.actx_grammar.specs.Lexemes.{Lexeme}
+use Rattle.actx_grammar.specs.Parser.{Standing as Settling, standing, settle_stmt, to_else}
+use Rattle.actx_grammar.specs.ParserOperands.{same_token}
+use Rattle.actx_grammar.specs.ParserState as m
+use Rattle.actx_grammar.specs.Tree as t
 use Rattle.actx_ast.specs.View.{expr_view, exprs_view, init_view, key_view, prop_key_view, stmt_view, catcher_view, stmts_view, lets_view, consts_view, properties_view, clauses_view, maybe_expr, catch_of}
-use Rattle.actx_ast.specs.declared.token.TokenKind.{TokenKind}
+use Rattle.actx_grammar.specs.declared.token.TokenKind.{TokenKind}
 use Rattle.actx_ast.specs.declared.tree.Catcher.{Catcher}
 use Rattle.actx_ast.specs.declared.tree.Expr.{Expr}
 use Rattle.actx_lex.specs.declared.token.Token.{Token}

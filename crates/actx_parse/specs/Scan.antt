@@ -1,10 +1,10 @@
 -- A run within some limits, which tells where it stops and not why.
 use Rattle.std.specs.Prelude.{ℕ, suc, List, [], ◌∷◌, Bool, false, Option, Some, None, nat_eq, if◌then◌else◌}
-use Rattle.actx_ast.specs.declared.side.Side.{Side}
-use Rattle.actx_ast.specs.Lexemes.{Lexeme}
-use Rattle.actx_ast.specs.Parser.{step, finish, Reason, unexpected, too_deep, too_many}
-use Rattle.actx_ast.specs.ParserState.{Limits, program, Frame, in_list, Mode, start, Move, refuse, go}
-use Rattle.actx_ast.specs.Tree.{Stmts, end}
+use Rattle.actx_grammar.specs.declared.side.Side.{Side}
+use Rattle.actx_grammar.specs.Lexemes.{Lexeme}
+use Rattle.actx_grammar.specs.Parser.{step, finish, Reason, unexpected, too_deep, too_many}
+use Rattle.actx_grammar.specs.ParserState.{Limits, program, Frame, in_list, Mode, start, Move, refuse, go}
+use Rattle.actx_grammar.specs.Tree.{Stmts, end}
 use Rattle.actx_ast.specs.View.{program_view}
 use Rattle.actx_parse.specs.declared.parse.machine.Outcome.{Outcome}
 use Rattle.actx_parse.specs.declared.parse.machine.Outcome.TheVariants as s

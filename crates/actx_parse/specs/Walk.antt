@@ -1,18 +1,18 @@
 -- A walk over a tree along the tokens that spell it, which notes where each node begins. An expression and its leftmost operands
 -- share the parentheses before the first token that is none: which of them stand round which is told by those behind.
 use Rattle.std.specs.Prelude.{ℕ, zero, suc, ◌+◌, ◌-◌, nat_lt, slice_set, List, [], ◌∷◌, ◌++◌, length, Bool, true, false, ◌||◌, ◌&&◌, Option, Some, None, if◌then◌else◌}
-use Rattle.actx_ast.specs.declared.operators.Form.{Form}
-use Rattle.actx_ast.specs.declared.operators.Form.TheVariants.{CallWith}
-use Rattle.actx_ast.specs.declared.operators.FunctionKind.{FunctionKind}
-use Rattle.actx_ast.specs.declared.operators.FunctionKind.TheVariants.{Normal, Arrow, Generator, Async, AsyncArrow, AsyncGenerator}
-use Rattle.actx_ast.specs.declared.token.Keyword.TheVariants as k
-use Rattle.actx_ast.specs.declared.token.Sign.{Sign}
-use Rattle.actx_ast.specs.declared.token.Sign.TheVariants as g
-use Rattle.actx_ast.specs.declared.token.TokenKind.{TokenKind}
-use Rattle.actx_ast.specs.declared.token.TokenKind.TheVariants as t
-use Rattle.actx_ast.specs.Forms.{form_words}
-use Rattle.actx_ast.specs.Lexemes.{Lexeme}
-use Rattle.actx_ast.specs.Tree.{Expr, Num, Text, Truth, Null, Undefined, This, Named, Unary, Binary, Logic, Choice, SetName, SetMember, Change, Bump, Member, Call, Object, Function, Yield, YieldAll, Await, Built, Exprs, none, also, MaybeExpr, no_expr, some_expr, Key, Dot, Index, PropKey, Fixed, Computed, Properties, no_properties, property, Code, code, LetItems, no_lets, let_item, ConstItems, no_consts, const_item, Init, init_nothing, init_let, init_const, init_value, Stmt, Let, Const, Fun, Block, If, While, DoWhile, For, ForOf, ForAwait, Break, Continue, Return, Throw, Try, Value, Empty, Switch, MaybeStmt, no_stmt, some_stmt, Catch, no_catch, catch, Last, no_last, last, Clauses, no_clauses, clause, Stmts, end, next}
+use Rattle.actx_grammar.specs.declared.operators.Form.{Form}
+use Rattle.actx_grammar.specs.declared.operators.Form.TheVariants.{CallWith}
+use Rattle.actx_grammar.specs.declared.operators.FunctionKind.{FunctionKind}
+use Rattle.actx_grammar.specs.declared.operators.FunctionKind.TheVariants.{Normal, Arrow, Generator, Async, AsyncArrow, AsyncGenerator}
+use Rattle.actx_grammar.specs.declared.token.Keyword.TheVariants as k
+use Rattle.actx_grammar.specs.declared.token.Sign.{Sign}
+use Rattle.actx_grammar.specs.declared.token.Sign.TheVariants as g
+use Rattle.actx_grammar.specs.declared.token.TokenKind.{TokenKind}
+use Rattle.actx_grammar.specs.declared.token.TokenKind.TheVariants as t
+use Rattle.actx_grammar.specs.Forms.{form_words}
+use Rattle.actx_grammar.specs.Lexemes.{Lexeme}
+use Rattle.actx_grammar.specs.Tree.{Expr, Num, Text, Truth, Null, Undefined, This, Named, Unary, Binary, Logic, Choice, SetName, SetMember, Change, Bump, Member, Call, Object, Function, Yield, YieldAll, Await, Built, Exprs, none, also, MaybeExpr, no_expr, some_expr, Key, Dot, Index, PropKey, Fixed, Computed, Properties, no_properties, property, Code, code, LetItems, no_lets, let_item, ConstItems, no_consts, const_item, Init, init_nothing, init_let, init_const, init_value, Stmt, Let, Const, Fun, Block, If, While, DoWhile, For, ForOf, ForAwait, Break, Continue, Return, Throw, Try, Value, Empty, Switch, MaybeStmt, no_stmt, some_stmt, Catch, no_catch, catch, Last, no_last, last, Clauses, no_clauses, clause, Stmts, end, next}
 
 -- where an expression begins with its parentheses, and where those end that are still open
 pub data Group : Type 0 where

@@ -1,5 +1,5 @@
 -- A property along a walk.
-use Rattle.actx_ast.specs.Tree.{Expr, PropKey}
+use Rattle.actx_grammar.specs.Tree.{Expr, PropKey}
 use Rattle.actx_parse.specs.Walk.{Walk, at, rest, pass_if, has_head, prop_key, value}
 
 abbrev pub property : PropKey → Expr → Walk → Walk

@@ -1,14 +1,14 @@
 //! The parser: from tokens to the tree that they spell, as `const a = 1 ;` is one statement of one item.
 
 ghost use Rattle.std.specs.Prelude.{◌≡◌, ℕ, None, All, IfErr, IfOk, IsErrOf};
-ghost use Rattle.actx_ast.specs.Exact.{Begins, BeginsWithin, UpTo};
-ghost use Rattle.actx_ast.specs.Grammar.{IsSpelled, deepest};
-ghost use Rattle.actx_ast.specs.Parser.{parse, parsed};
-ghost use Rattle.actx_ast.specs.Tree.{Stmts};
+ghost use Rattle.actx_grammar.specs.Exact.{Begins, BeginsWithin, UpTo};
+ghost use Rattle.actx_grammar.specs.Grammar.{IsSpelled, deepest};
+ghost use Rattle.actx_grammar.specs.Parser.{parse, parsed};
+ghost use Rattle.actx_grammar.specs.Tree.{Stmts};
 ghost use Rattle.actx_ast.specs.View.{program_view};
-ghost use Rattle.actx_ast.specs.Words.{HasForm};
+ghost use Rattle.actx_grammar.specs.Words.{HasForm};
 ghost use Rattle.actx_lex.specs.Lexical.{kinds_of};
-ghost use Rattle.actx_ast.specs.declared.side.Side.TheVariants.{Plain, Source};
+ghost use Rattle.actx_grammar.specs.declared.side.Side.TheVariants.{Plain, Source};
 ghost use Rattle.actx_parse.specs.Answers.{ArePlaces, IsTold, RefusesAt, StopsFirst};
 ghost use Rattle.actx_lex.specs.Lexemes.{lexemes};
 ghost use Rattle.actx_parse.specs.Walk.{places_of};
@@ -46,7 +46,7 @@ use self::limits::{Rules, limits_of};
 use self::machine::{Outcome, scan};
 use self::reasons::fault_at;
 use crate::places::places;
-use actx_ast::side::Side;
+use actx_grammar::side::Side;
 use actx_ast::tree::Program;
 use actx_data::NoMemory;
 use actx_lex::token::{Token, Tokens};

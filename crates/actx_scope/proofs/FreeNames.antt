@@ -2,7 +2,7 @@
 use Rattle.std.proofs.Common.{◌≡◌, ℕ, ◌||◌, List, [], ◌∷◌, ◌++◌, if◌then◌else◌, refl, ap}
 use Rattle.std.specs.List.{list_any}
 use Rattle.indexmap.specs.IndexSet.{insert_key}
-use Rattle.actx_ast.specs.Static.{same_name, is_among}
+use Rattle.actx_grammar.specs.Static.{same_name, is_among}
 use Rattle.actx_scope.specs.declared.link.Link.{Link}
 use Rattle.actx_scope.specs.declared.link.Link.TheVariants.{Nothing, To, Free}
 use Rattle.actx_scope.specs.Links.{free_of, with_name, with_names}

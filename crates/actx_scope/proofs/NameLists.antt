@@ -6,7 +6,7 @@ use Rattle.std.proofs.lemmas.List.{reverse-append, length-reverse, length-drop, 
 use Rattle.std.proofs.lemmas.Slice.Eq.{slice_eq-Decides}
 use Rattle.std.specs.List.{list_any}
 use Rattle.indexmap.specs.IndexSet.{insert_key}
-use Rattle.actx_ast.specs.Static.{Declared, Place, undeclared, reserved, same_name, is_among, names_of, unusable, offends_if, use_offences}
+use Rattle.actx_grammar.specs.Static.{Declared, Place, undeclared, reserved, same_name, is_among, names_of, unusable, offends_if, use_offences}
 use Rattle.actx_scope.specs.Found.{found, grown, outer_part}
 
 -- THE SAME

@@ -1,6 +1,6 @@
 -- What a walk over a tree does to the state: it passes the tree's nodes, links its names, and keeps its first offence.
 use Rattle.std.proofs.Common.{◌≡◌, ℕ, suc, ◌+◌, Bool, true, false, List, [], ◌∷◌, ◌++◌, length, Option, Some, None, if◌then◌else◌, refl, sym, ◌∙◌, ap, append_assoc, append-nil, arith}
-use Rattle.actx_ast.specs.Static.{Declared, Offence, Place, twice, reserved, undeclared, is_among, names_of, unbindable, unusable, offends_if, behind, all_behind, looped, use_offences, target_offences, binding_offences, params_offences}
+use Rattle.actx_grammar.specs.Static.{Declared, Offence, Place, twice, reserved, undeclared, is_among, names_of, unbindable, unusable, offends_if, behind, all_behind, looped, use_offences, target_offences, binding_offences, params_offences}
 use Rattle.actx_scope.specs.declared.fault.CheckFault.{CheckFault}
 use Rattle.actx_scope.specs.declared.link.Link.{Link}
 use Rattle.actx_scope.specs.declared.link.Link.TheVariants.{Nothing, To, Free}

@@ -1,7 +1,7 @@
 -- A table of declarations where one more becomes known, and where the last is forgotten.
 use Rattle.std.proofs.Common.{◌≡◌, ℕ, ◌+◌, Bool, true, false, cond, List, [], ◌∷◌, ◌++◌, length, Option, Some, None, IsSome, if◌then◌else◌, refl, sym, ◌∙◌, ap, arith, rules}
 use Rattle.std.specs.HashMap.{HashMap, get, Updates}
-use Rattle.actx_ast.specs.Static.{Declared, declared, same_name}
+use Rattle.actx_grammar.specs.Static.{Declared, declared, same_name}
 use Rattle.actx_scope.specs.declared.known.Hidden.{Hidden}
 use Rattle.actx_scope.specs.Found.{found, joined}
 use Rattle.actx_scope.specs.Tables.{stacked, AreHidden, looked_up, Fits}

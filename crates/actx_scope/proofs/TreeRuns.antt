@@ -1,9 +1,9 @@
 -- The machine's walk over each tree passes its nodes, links its names, and keeps its first offence.
 use Rattle.std.proofs.Common.{ℕ, suc, ◌+◌, List, [], ◌∷◌, ◌++◌, length, Option, Some, None, refl, sym, ◌∙◌, ap, append_assoc, arith}
-use Rattle.actx_ast.specs.declared.operators.FunctionKind.{FunctionKind}
-use Rattle.actx_ast.specs.Nodes.{name_nodes, expr_nodes, exprs_nodes, maybe_nodes, key_nodes, prop_key_nodes, properties_nodes, code_nodes, lets_nodes, consts_nodes, init_nodes, stmt_nodes, maybe_stmt_nodes, catch_nodes, last_nodes, clauses_nodes, stmts_nodes}
-use Rattle.actx_ast.specs.Static.{Declared, declared, Offence, Place, alone, inside, in_body, behind, all_behind, looped, names_of, own_declared, params_declared, lets_declared, consts_declared, list_declared, init_declared, stmt_declared, own_offences, params_offences, binding_offences, unless, expr_offences, exprs_offences, maybe_offences, key_offences, prop_key_offences, properties_offences, function_offences, lets_offences, consts_offences, init_offences, stmt_offences, maybe_stmt_offences, catch_offences, last_offences, clauses_offences, stmts_offences}
-use Rattle.actx_ast.specs.Tree.{Expr, Num, Text, Truth, Null, Undefined, This, Named, Unary, Binary, Logic, Choice, SetName, SetMember, Change, Bump, Member, Call, Object, Function, Yield, YieldAll, Await, Built, Exprs, none, also, MaybeExpr, no_expr, some_expr, Key, Dot, Index, PropKey, Fixed, Computed, Properties, no_properties, property, Code, code, LetItems, no_lets, let_item, ConstItems, no_consts, const_item, Init, init_nothing, init_let, init_const, init_value, Stmt, Let, Const, Fun, Block, If, While, DoWhile, For, ForOf, ForAwait, Break, Continue, Return, Throw, Try, Value, Empty, Switch, MaybeStmt, no_stmt, some_stmt, Catch, no_catch, catch, Last, no_last, last, Clauses, no_clauses, clause, Stmts, end, next}
+use Rattle.actx_grammar.specs.declared.operators.FunctionKind.{FunctionKind}
+use Rattle.actx_grammar.specs.Nodes.{name_nodes, expr_nodes, exprs_nodes, maybe_nodes, key_nodes, prop_key_nodes, properties_nodes, code_nodes, lets_nodes, consts_nodes, init_nodes, stmt_nodes, maybe_stmt_nodes, catch_nodes, last_nodes, clauses_nodes, stmts_nodes}
+use Rattle.actx_grammar.specs.Static.{Declared, declared, Offence, Place, alone, inside, in_body, behind, all_behind, looped, names_of, own_declared, params_declared, lets_declared, consts_declared, list_declared, init_declared, stmt_declared, own_offences, params_offences, binding_offences, unless, expr_offences, exprs_offences, maybe_offences, key_offences, prop_key_offences, properties_offences, function_offences, lets_offences, consts_offences, init_offences, stmt_offences, maybe_stmt_offences, catch_offences, last_offences, clauses_offences, stmts_offences}
+use Rattle.actx_grammar.specs.Tree.{Expr, Num, Text, Truth, Null, Undefined, This, Named, Unary, Binary, Logic, Choice, SetName, SetMember, Change, Bump, Member, Call, Object, Function, Yield, YieldAll, Await, Built, Exprs, none, also, MaybeExpr, no_expr, some_expr, Key, Dot, Index, PropKey, Fixed, Computed, Properties, no_properties, property, Code, code, LetItems, no_lets, let_item, ConstItems, no_consts, const_item, Init, init_nothing, init_let, init_const, init_value, Stmt, Let, Const, Fun, Block, If, While, DoWhile, For, ForOf, ForAwait, Break, Continue, Return, Throw, Try, Value, Empty, Switch, MaybeStmt, no_stmt, some_stmt, Catch, no_catch, catch, Last, no_last, last, Clauses, no_clauses, clause, Stmts, end, next}
 use Rattle.actx_scope.specs.declared.link.Link.{Link}
 use Rattle.actx_scope.specs.declared.link.Link.TheVariants.{Nothing}
 use Rattle.actx_scope.specs.Links.{own_links, params_links, expr_links, exprs_links, maybe_links, key_links, prop_key_links, properties_links, function_links, lets_links, consts_links, init_links, stmt_links, maybe_stmt_links, catch_links, last_links, clauses_links, stmts_links}

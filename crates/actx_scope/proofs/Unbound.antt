@@ -1,9 +1,9 @@
 -- What an expression offends doesn't depend on the names of its scope that stand before, and what is known doesn't change
 -- behind them.
 use Rattle.std.proofs.Common.{◌≡◌, ℕ, suc, ◌+◌, List, [], ◌∷◌, ◌++◌, length, if◌then◌else◌, true, refl, sym, ◌∙◌, ap, append_assoc}
-use Rattle.actx_ast.specs.Nodes.{expr_nodes, key_nodes, prop_key_nodes}
-use Rattle.actx_ast.specs.Static.{Offence, Place, twice, reserved, is_among, unbindable, offends_if, behind, all_behind, params_offences, expr_offences, exprs_offences, maybe_offences, key_offences, prop_key_offences, properties_offences}
-use Rattle.actx_ast.specs.Tree.{Expr, Num, Text, Truth, Null, Undefined, This, Named, Unary, Binary, Logic, Choice, SetName, SetMember, Change, Bump, Member, Call, Object, Function, Yield, YieldAll, Await, Built, Exprs, none, also, MaybeExpr, no_expr, some_expr, Key, Dot, Index, PropKey, Fixed, Computed, Properties, no_properties, property, code}
+use Rattle.actx_grammar.specs.Nodes.{expr_nodes, key_nodes, prop_key_nodes}
+use Rattle.actx_grammar.specs.Static.{Offence, Place, twice, reserved, is_among, unbindable, offends_if, behind, all_behind, params_offences, expr_offences, exprs_offences, maybe_offences, key_offences, prop_key_offences, properties_offences}
+use Rattle.actx_grammar.specs.Tree.{Expr, Num, Text, Truth, Null, Undefined, This, Named, Unary, Binary, Logic, Choice, SetName, SetMember, Change, Bump, Member, Call, Object, Function, Yield, YieldAll, Await, Built, Exprs, none, also, MaybeExpr, no_expr, some_expr, Key, Dot, Index, PropKey, Fixed, Computed, Properties, no_properties, property, code}
 use Rattle.actx_scope.specs.Found.{outer_part}
 use Rattle.actx_scope.proofs.NameLists.{outer_behind}
 

@@ -1,8 +1,8 @@
 -- What the walk over a whole program answers, and that over a function.
 use Rattle.std.proofs.Common.{◌≡◌, ℕ, ◌+◌, List, [], ◌∷◌, ◌++◌, Option, Some, None, refl, sym, ◌∙◌, ap, append-nil}
-use Rattle.actx_ast.specs.Static.{Declared, Offence, Kind, undeclared, twice, reserved, misplaced, outermost, offences, first_offence, list_declared}
-use Rattle.actx_ast.specs.Nodes.{stmts_nodes}
-use Rattle.actx_ast.specs.Tree.{Code, Stmts}
+use Rattle.actx_grammar.specs.Static.{Declared, Offence, Kind, undeclared, twice, reserved, misplaced, outermost, offences, first_offence, list_declared}
+use Rattle.actx_grammar.specs.Nodes.{stmts_nodes}
+use Rattle.actx_grammar.specs.Tree.{Code, Stmts}
 use Rattle.actx_scope.specs.declared.fault.CheckFault.{CheckFault}
 use Rattle.actx_scope.specs.declared.walk.state.Walk.{Walk}
 use Rattle.actx_scope.specs.Faults.{fault_of_kind, first_fault}

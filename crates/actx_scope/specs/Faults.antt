@@ -1,6 +1,6 @@
 -- What a list of offences is answered by: its first.
 use Rattle.std.specs.Prelude.{ℕ, List, [], ◌∷◌, Option, Some, None}
-use Rattle.actx_ast.specs.Static.{Offence, Kind, undeclared, twice, reserved, misplaced}
+use Rattle.actx_grammar.specs.Static.{Offence, Kind, undeclared, twice, reserved, misplaced}
 use Rattle.actx_scope.specs.declared.fault.CheckFault.{CheckFault}
 use Rattle.actx_scope.specs.declared.fault.CheckFault.TheVariants.{Undeclared, Twice, Reserved, Misplaced}
 

@@ -1,6 +1,6 @@
 -- Which declaration a name refers to where some are known.
 use Rattle.std.specs.Prelude.{ℕ, ◌-◌, List, [], ◌∷◌, drop, length, Option, Some, None, if◌then◌else◌}
-use Rattle.actx_ast.specs.Static.{Declared, is_among, same_name}
+use Rattle.actx_grammar.specs.Static.{Declared, is_among, same_name}
 
 -- the node of the first declaration of the name: the innermost one
 abbrev pub found : List Declared → List ℕ → Option ℕ

@@ -1,9 +1,9 @@
 -- What the nodes of a tree refer to, in order: at a use of a name the node that declares it or, where no declaration of the
 -- name is in scope, the name itself; and at any other node nothing.
 use Rattle.std.specs.Prelude.{ℕ, suc, ◌+◌, List, [], ◌∷◌, ◌++◌, length, Option, Some, None, slice_get, if◌then◌else◌}
-use Rattle.actx_ast.specs.Nodes.{name_nodes, expr_nodes, maybe_nodes, key_nodes, prop_key_nodes, init_nodes, stmt_nodes, stmts_nodes, catch_nodes}
-use Rattle.actx_ast.specs.Static.{Declared, declared, is_among, own_declared, params_declared, list_declared, init_declared}
-use Rattle.actx_ast.specs.Tree.{Expr, Num, Text, Truth, Null, Undefined, This, Named, Unary, Binary, Logic, Choice, SetName, SetMember, Change, Bump, Member, Call, Object, Function, Yield, YieldAll, Await, Built, Exprs, none, also, MaybeExpr, no_expr, some_expr, Key, Dot, Index, PropKey, Fixed, Computed, Properties, no_properties, property, Code, code, LetItems, no_lets, let_item, ConstItems, no_consts, const_item, Init, init_nothing, init_let, init_const, init_value, Stmt, Let, Const, Fun, Block, If, While, DoWhile, For, ForOf, ForAwait, Break, Continue, Return, Throw, Try, Value, Empty, Switch, MaybeStmt, no_stmt, some_stmt, Catch, no_catch, catch, Last, no_last, last, Clauses, no_clauses, clause, Stmts, end, next}
+use Rattle.actx_grammar.specs.Nodes.{name_nodes, expr_nodes, maybe_nodes, key_nodes, prop_key_nodes, init_nodes, stmt_nodes, stmts_nodes, catch_nodes}
+use Rattle.actx_grammar.specs.Static.{Declared, declared, is_among, own_declared, params_declared, list_declared, init_declared}
+use Rattle.actx_grammar.specs.Tree.{Expr, Num, Text, Truth, Null, Undefined, This, Named, Unary, Binary, Logic, Choice, SetName, SetMember, Change, Bump, Member, Call, Object, Function, Yield, YieldAll, Await, Built, Exprs, none, also, MaybeExpr, no_expr, some_expr, Key, Dot, Index, PropKey, Fixed, Computed, Properties, no_properties, property, Code, code, LetItems, no_lets, let_item, ConstItems, no_consts, const_item, Init, init_nothing, init_let, init_const, init_value, Stmt, Let, Const, Fun, Block, If, While, DoWhile, For, ForOf, ForAwait, Break, Continue, Return, Throw, Try, Value, Empty, Switch, MaybeStmt, no_stmt, some_stmt, Catch, no_catch, catch, Last, no_last, last, Clauses, no_clauses, clause, Stmts, end, next}
 use Rattle.actx_scope.specs.declared.link.Link.{Link}
 use Rattle.actx_scope.specs.declared.link.Link.TheVariants.{Nothing, To, Free}
 use Rattle.actx_scope.specs.Found.{found}

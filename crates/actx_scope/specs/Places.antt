@@ -1,7 +1,7 @@
 -- What the code's places stand for.
 use Rattle.std.specs.Prelude.{true, false, if◌then◌else◌}
-use Rattle.actx_ast.specs.Static as s
-use Rattle.actx_ast.specs.declared.operators.FunctionKind.{FunctionKind}
+use Rattle.actx_grammar.specs.Static as s
+use Rattle.actx_grammar.specs.declared.operators.FunctionKind.{FunctionKind}
 use Rattle.actx_scope.specs.declared.place.Around.{Around}
 use Rattle.actx_scope.specs.declared.place.Place.{Place}
 

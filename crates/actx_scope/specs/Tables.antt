@@ -2,7 +2,7 @@
 -- declared what the table had for it before.
 use Rattle.std.specs.Prelude.{◌≡◌, ℕ, List, [], ◌∷◌, Option}
 use Rattle.std.specs.HashMap.{HashMap, get}
-use Rattle.actx_ast.specs.Static.{Declared, declared, same_name}
+use Rattle.actx_grammar.specs.Static.{Declared, declared, same_name}
 use Rattle.actx_scope.specs.declared.known.Hidden.{Hidden}
 use Rattle.actx_scope.specs.Found.{found, joined}
 

@@ -1,10 +1,10 @@
 //! The names of a scope that stand before a place, so that a second binding of one of them is found.
 
 ghost use Rattle.std.specs.Prelude.{◌≡◌, [], IfOk, OnOk, length, not};
-ghost use Rattle.actx_ast.specs.Static.{is_among};
+ghost use Rattle.actx_grammar.specs.Static.{is_among};
 ghost use Rattle.actx_scope.specs.Found.{grown, outer_part};
 
-use actx_ast::name::Name;
+use actx_grammar::name::Name;
 use actx_data::{NoMemory, Twin};
 use indexmap::IndexSet;
 use std::alloc::Global;

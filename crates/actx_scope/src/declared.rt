@@ -1,11 +1,11 @@
 //! Declarations: names with the nodes that declare them, as a list of statements declares them (ECMA-262, 8.2.4).
 
 ghost use Rattle.std.specs.Prelude.{◌≡◌, ◌+◌, ◌++◌, ◌∷◌, [], OnOk, IfOk, length};
-ghost use Rattle.actx_ast.specs.Static.{declared, lets_declared, consts_declared, own_declared, params_declared, stmt_declared, list_declared, init_declared};
+ghost use Rattle.actx_grammar.specs.Static.{declared, lets_declared, consts_declared, own_declared, params_declared, stmt_declared, list_declared, init_declared};
 ghost use Rattle.actx_ast.specs.View.{lets_view, consts_view, init_view, stmt_view, stmts_view};
 
 use super::count::{after, expr_end, maybe_end, name_end, stmt_end};
-use actx_ast::name::Name;
+use actx_grammar::name::Name;
 use actx_ast::tree::{ConstItem, ForInit, LetItem, Stmt};
 use actx_data::{NoMemory, Twin};
 use std::alloc::Global;
@@ -19,7 +19,7 @@ pub struct Declared {
 }
 
 impl Model for Declared {
-    ghost use Rattle.actx_ast.specs.Static as spec;
+    ghost use Rattle.actx_grammar.specs.Static as spec;
 
     ghost Value = { spec.Declared };
 

@@ -8,7 +8,7 @@ ghost use Rattle.actx_scope.specs.States.{state};
 
 use super::link::Link;
 use super::walk::{Walk, walk_function};
-use actx_ast::name::Name;
+use actx_grammar::name::Name;
 use actx_ast::tree::Function;
 use actx_data::{NoMemory, Twin};
 use indexmap::IndexSet;

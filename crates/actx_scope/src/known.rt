@@ -2,12 +2,12 @@
 
 ghost use Rattle.std.specs.Prelude.{◌≡◌, ◌∷◌, ◌-◌, ◌++◌, [], Some, IsSome, OnOk, drop, length};
 ghost use Rattle.std.specs.HashMap.{get, Updates};
-ghost use Rattle.actx_ast.specs.Static.{same_name};
+ghost use Rattle.actx_grammar.specs.Static.{same_name};
 ghost use Rattle.actx_scope.specs.Found.{found, outer_part};
 ghost use Rattle.actx_scope.specs.Tables.{looked_up};
 
 use super::declared::Declared;
-use actx_ast::name::Name;
+use actx_grammar::name::Name;
 use actx_data::{NoMemory, Twin};
 use indexmap::IndexMap;
 use std::alloc::Global;
@@ -30,7 +30,7 @@ pub struct Known {
 
 impl Model for Known {
     ghost use Rattle.std.specs.Prelude.{List, []};
-    ghost use Rattle.actx_ast.specs.Static as spec;
+    ghost use Rattle.actx_grammar.specs.Static as spec;
 
     ghost Value = { List spec.Declared };
 

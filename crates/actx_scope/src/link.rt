@@ -1,6 +1,6 @@
 //! What the nodes of a tree refer to.
 
-use actx_ast::name::Name;
+use actx_grammar::name::Name;
 
 /// What one node refers to.
 #[derive(Drop)]

@@ -1,9 +1,9 @@
 //! Names and keys that the static rules speak of, as `eval`, which no program binds or uses.
 
 ghost use Rattle.std.specs.Prelude.{◌≡◌, codes};
-ghost use Rattle.actx_ast.specs.Static.{same_name, is_among, unusable, unbindable, inherited};
+ghost use Rattle.actx_grammar.specs.Static.{same_name, is_among, unusable, unbindable, inherited};
 
-use actx_ast::name::Name;
+use actx_grammar::name::Name;
 use actx_data::Units;
 
 const EVAL: [char; 4] = ['e', 'v', 'a', 'l'];

@@ -1,8 +1,8 @@
 //! Places of a program: what is known there, and what stands round it.
 
 ghost use Rattle.std.specs.Prelude.{◌≡◌, ◌++◌, [], true, false, IfOk, OnOk, length};
-ghost use Rattle.actx_ast.specs.Static as spec;
-ghost use Rattle.actx_ast.specs.declared.operators.FunctionKind.{FunctionKind};
+ghost use Rattle.actx_grammar.specs.Static as spec;
+ghost use Rattle.actx_grammar.specs.declared.operators.FunctionKind.{FunctionKind};
 ghost use Rattle.actx_scope.specs.Faults.{first_fault};
 ghost use Rattle.actx_scope.specs.Found.{grown, outer_part};
 ghost use Rattle.actx_scope.specs.Links.{link_of};
@@ -14,8 +14,8 @@ use super::fault::CheckFault;
 use super::known::{Known, declare_all};
 use super::link::Link;
 use super::names::{is_unbindable, is_unusable};
-use actx_ast::name::Name;
-use actx_ast::operators::FunctionKind;
+use actx_grammar::name::Name;
+use actx_grammar::operators::FunctionKind;
 use actx_data::{NoMemory, Twin};
 use std::alloc::Global;
 use std::mem::replace;

@@ -2,7 +2,7 @@
 //! declares, and `let a; let a;` declares one twice.
 
 ghost use Rattle.std.specs.Prelude.{◌≡◌, ℕ, [], Some, IfOk, OnOk, IsErrOf};
-ghost use Rattle.actx_ast.specs.Static as spec;
+ghost use Rattle.actx_grammar.specs.Static as spec;
 ghost use Rattle.actx_ast.specs.View.{program_view};
 ghost use Rattle.actx_scope.specs.Links.{links, link_at, free_of};
 ghost use Rattle.actx_scope.specs.Machine as m;

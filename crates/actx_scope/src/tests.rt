@@ -3,8 +3,8 @@
 mod make;
 
 use crate::{CheckFault, check, free_names};
-use actx_ast::name::Name;
-use actx_ast::operators::FunctionKind;
+use actx_grammar::name::Name;
+use actx_grammar::operators::FunctionKind;
 use actx_ast::tree::{Expr, ForInit, LetItem, Program, Stmt};
 use actx_data::NoMemory;
 use make::Make;

@@ -2,21 +2,21 @@
 -- program whose trees are those of the source but for a variable's call, which is a level deeper.
 use Rattle.std.proofs.Common.{◌≡◌, ◌≢◌, ℕ, suc, ◌≤◌, List, [], ◌∷◌, Bool, true, false, None, refl, sym, subst, arith, lit≤}
 use Rattle.std.specs.Prelude.{max, nat_lt, All}
-use Rattle.actx_ast.specs.declared.side.Side.TheVariants.{Source, Plain}
-use Rattle.actx_ast.specs.Depth.{with_parens, depth, depth_list, depth_properties, depth_maybe, depth_consts, depth_stmt, depth_program}
-use Rattle.actx_ast.specs.Forms.{level_of}
-use Rattle.actx_ast.specs.Grammar.{IsSpelled, deepest}
-use Rattle.actx_ast.specs.Layout.{laid}
-use Rattle.actx_ast.specs.Lexemes.{Lexeme}
-use Rattle.actx_ast.specs.Names.{IsBinding}
-use Rattle.actx_ast.specs.Sides.{ExprOn, ExprsOn, PropertiesOn, ConstsOn, StmtOn, StmtsOn}
-use Rattle.actx_ast.specs.Spell.{Start, inner, statement, within, begins, wrapped, spell_program}
-use Rattle.actx_ast.specs.Tree.{Expr, Exprs, Properties, ConstItems, no_consts, Stmt, Stmts, end, next}
-use Rattle.actx_ast.specs.declared.operators.FunctionKind.TheVariants.{Arrow}
-use Rattle.actx_ast.proofs.SideReads.{stmts_on}
-use Rattle.actx_ast.proofs.SideSpells.{stmts_said}
-use Rattle.actx_ast.proofs.SpellDeeper.{deeper_stmts}
-use Rattle.actx_ast.proofs.SpellLaws.{shallowest}
+use Rattle.actx_grammar.specs.declared.side.Side.TheVariants.{Source, Plain}
+use Rattle.actx_grammar.specs.Depth.{with_parens, depth, depth_list, depth_properties, depth_maybe, depth_consts, depth_stmt, depth_program}
+use Rattle.actx_grammar.specs.Forms.{level_of}
+use Rattle.actx_grammar.specs.Grammar.{IsSpelled, deepest}
+use Rattle.actx_grammar.specs.Layout.{laid}
+use Rattle.actx_grammar.specs.Lexemes.{Lexeme}
+use Rattle.actx_grammar.specs.Names.{IsBinding}
+use Rattle.actx_grammar.specs.Sides.{ExprOn, ExprsOn, PropertiesOn, ConstsOn, StmtOn, StmtsOn}
+use Rattle.actx_grammar.specs.Spell.{Start, inner, statement, within, begins, wrapped, spell_program}
+use Rattle.actx_grammar.specs.Tree.{Expr, Exprs, Properties, ConstItems, no_consts, Stmt, Stmts, end, next}
+use Rattle.actx_grammar.specs.declared.operators.FunctionKind.TheVariants.{Arrow}
+use Rattle.actx_laws.proofs.SideReads.{stmts_on}
+use Rattle.actx_laws.proofs.SideSpells.{stmts_said}
+use Rattle.actx_laws.proofs.SpellDeeper.{deeper_stmts}
+use Rattle.actx_laws.proofs.SpellLaws.{shallowest}
 use Rattle.actx_top.specs.Prelude.{prelude}
 use Rattle.actx_top.specs.Low.{p_, program_renamed, followed_by, low}
 use Rattle.actx_top.specs.Related.{NamesAre, no_names, more_names, ExprIs, num_expr, text_expr, undefined_expr, named_expr, binary_expr, member_expr, call_expr, arrow_expr, log_expr, variable_expr, options_expr, ExprsAre, no_exprs, more_exprs, PropertiesAre, no_properties_are, more_properties, ItemsAre, no_items_are, more_items, StmtIs, const_stmt, value_stmt, return_stmt, return_nothing_stmt, StmtsAre, no_stmts, more_stmts}

@@ -2,12 +2,12 @@
 use Rattle.std.proofs.Common.{◌≡◌, ◌≢◌, ℕ, List, [], ◌∷◌, Bool, true, false, refl, sym, ap, ◌∙◌, subst, true≢false}
 use Rattle.std.specs.Prelude.{◌&&◌, ◌==◌, IsTrue, All, codes}
 use Rattle.std.proofs.lemmas.List.Elements.{All-nil, All-cons, All-head, All-tail}
-use Rattle.actx_ast.specs.declared.side.Side.TheVariants.{Source, Plain}
-use Rattle.actx_ast.specs.declared.token.Keyword.{Keyword}
-use Rattle.actx_ast.specs.declared.token.Keyword.TheVariants as k
-use Rattle.actx_ast.specs.Words.{IsName, is_name_part, is_name_start, keyword_text}
-use Rattle.actx_ast.specs.Names.{IsBinding, IsReference}
-use Rattle.actx_ast.proofs.ViableTests.{binding_is}
+use Rattle.actx_grammar.specs.declared.side.Side.TheVariants.{Source, Plain}
+use Rattle.actx_grammar.specs.declared.token.Keyword.{Keyword}
+use Rattle.actx_grammar.specs.declared.token.Keyword.TheVariants as k
+use Rattle.actx_grammar.specs.Words.{IsName, is_name_part, is_name_start, keyword_text}
+use Rattle.actx_grammar.specs.Names.{IsBinding, IsReference}
+use Rattle.actx_laws.proofs.ViableTests.{binding_is}
 use Rattle.actx_lex.proofs.Classes.{letter_start, start_part}
 use Rattle.actx_top.specs.Low.{p_, names_renamed}
 

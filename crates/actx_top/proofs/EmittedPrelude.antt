@@ -4,24 +4,24 @@ use Rattle.std.specs.Prelude.{◌&&◌, ◌||◌, nat_le, nat_lt, IsTrue, All}
 use Rattle.std.proofs.lemmas.Bool.{or_cases}
 use Rattle.std.proofs.lemmas.Bool.Decides.{nat_tests}
 use Rattle.std.proofs.lemmas.List.Elements.{All-nil, All-cons}
-use Rattle.actx_ast.specs.declared.side.Side.TheVariants.{Plain}
-use Rattle.actx_ast.specs.declared.token.Keyword.{Keyword}
-use Rattle.actx_ast.specs.declared.token.Keyword.TheVariants as k
-use Rattle.actx_ast.specs.declared.token.TokenKind.{TokenKind}
-use Rattle.actx_ast.specs.declared.token.TokenKind.TheVariants as t
-use Rattle.actx_ast.specs.Depth.{depth_program}
-use Rattle.actx_ast.specs.Exact.{InForm}
-use Rattle.actx_ast.specs.Grammar.{IsSpelled}
-use Rattle.actx_ast.specs.Layout.{laid}
-use Rattle.actx_ast.specs.Lexemes.{Lexeme}
-use Rattle.actx_ast.specs.Names.{IsReference}
-use Rattle.actx_ast.specs.Parser.{parse, parsed}
-use Rattle.actx_ast.specs.Sides.{StmtsOn}
-use Rattle.actx_ast.specs.Spell.{spell_program, word_token}
-use Rattle.actx_ast.specs.Words.{IsName, is_name_part, HasForm, keyword_text, greatest_number}
-use Rattle.actx_ast.proofs.SideReads.{stmts_on}
-use Rattle.actx_ast.proofs.ViableParsed.{spells}
-use Rattle.actx_ast.proofs.ViableTests.{and_left, and_right, binding_is}
+use Rattle.actx_grammar.specs.declared.side.Side.TheVariants.{Plain}
+use Rattle.actx_grammar.specs.declared.token.Keyword.{Keyword}
+use Rattle.actx_grammar.specs.declared.token.Keyword.TheVariants as k
+use Rattle.actx_grammar.specs.declared.token.TokenKind.{TokenKind}
+use Rattle.actx_grammar.specs.declared.token.TokenKind.TheVariants as t
+use Rattle.actx_grammar.specs.Depth.{depth_program}
+use Rattle.actx_grammar.specs.Exact.{InForm}
+use Rattle.actx_grammar.specs.Grammar.{IsSpelled}
+use Rattle.actx_grammar.specs.Layout.{laid}
+use Rattle.actx_grammar.specs.Lexemes.{Lexeme}
+use Rattle.actx_grammar.specs.Names.{IsReference}
+use Rattle.actx_grammar.specs.Parser.{parse, parsed}
+use Rattle.actx_grammar.specs.Sides.{StmtsOn}
+use Rattle.actx_grammar.specs.Spell.{spell_program, word_token}
+use Rattle.actx_grammar.specs.Words.{IsName, is_name_part, HasForm, keyword_text, greatest_number}
+use Rattle.actx_laws.proofs.SideReads.{stmts_on}
+use Rattle.actx_laws.proofs.ViableParsed.{spells}
+use Rattle.actx_laws.proofs.ViableTests.{and_left, and_right, binding_is}
 use Rattle.actx_lex.specs.Characters.{is_digit}
 use Rattle.actx_lex.proofs.Classes.{is_letter, letter_start, start_part, digit_part}
 use Rattle.actx_top.specs.Prelude.{name_variable, prelude}

@@ -2,12 +2,12 @@
 use Rattle.std.proofs.Common.{◌≡◌, ℕ, suc, ◌≤◌, length, List, [], ◌∷◌, Some, None, Bool, true, false, refl, ap, if◌then◌else◌, arith}
 use Rattle.std.specs.Prelude.{◌&&◌}
 use Rattle.actx_data.specs.declared.end.End.TheVariants.{Left}
-use Rattle.actx_ast.specs.declared.side.Side.TheVariants.{Plain}
+use Rattle.actx_grammar.specs.declared.side.Side.TheVariants.{Plain}
 use Rattle.actx_ast.specs.declared.tree.Expr.{Expr}
-use Rattle.actx_ast.specs.declared.operators.Form.{Form}
-use Rattle.actx_ast.specs.Grammar.{count}
-use Rattle.actx_ast.specs.ParserOperands.{suits}
-use Rattle.actx_ast.specs.Tree.{Exprs}
+use Rattle.actx_grammar.specs.declared.operators.Form.{Form}
+use Rattle.actx_grammar.specs.Grammar.{count}
+use Rattle.actx_grammar.specs.ParserOperands.{suits}
+use Rattle.actx_grammar.specs.Tree.{Exprs}
 use Rattle.actx_ast.specs.View.{exprs_view}
 use Rattle.actx_top.specs.Machine.{has_form, eval_form, eval_parts}
 use Rattle.actx_top.specs.MachineView.{form_of}

@@ -1,6 +1,6 @@
 -- Lists of the code's trees that are renamed one by one.
 use Rattle.std.proofs.Common.{◌≡◌, List, [], ◌∷◌, ◌++◌, map, refl, ap}
-use Rattle.actx_ast.specs.Tree as t
+use Rattle.actx_grammar.specs.Tree as t
 use Rattle.actx_ast.specs.View.{expr_view, exprs_of, exprs_view, const_view, consts_of, consts_view, property_view, properties_of, properties_view, stmt_view, stmts_of, stmts_view}
 use Rattle.actx_ast.specs.declared.tree.Expr.{Expr}
 use Rattle.actx_ast.specs.declared.tree.ConstItem.{ConstItem}

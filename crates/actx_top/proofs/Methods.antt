@@ -3,7 +3,7 @@ use Rattle.std.proofs.Common.{◌≡◌, ℕ, List, [], ◌∷◌, Option, Some,
 use Rattle.actx_data.specs.declared.shown.ErrorName.TheVariants.{TypeError}
 use Rattle.actx_data.specs.declared.value.Value.{Value}
 use Rattle.actx_data.specs.declared.value.Value.TheVariants as v
-use Rattle.actx_ast.specs.declared.side.Side.TheVariants.{Plain}
+use Rattle.actx_grammar.specs.declared.side.Side.TheVariants.{Plain}
 use Rattle.actx_top.specs.State as m
 use Rattle.actx_top.specs.Machine.{weak_gets, weak_sets, call_thing, answered, throws}
 use Rattle.actx_top.specs.MethodView.{called, weak_answer, set_entry, entry_set, weak_put, argument}

@@ -3,14 +3,14 @@ use Rattle.std.proofs.Common.{◌≡◌, ◌<◌, ◌≤◌, ℕ, List, [], ◌�
 use Rattle.std.specs.Prelude.{All, slice_get}
 use Rattle.std.proofs.lemmas.List.Elements.{All-head}
 use Rattle.std.proofs.lemmas.Option.{slice_get-get_or}
-use Rattle.actx_ast.specs.declared.side.Side.TheVariants.{Source}
-use Rattle.actx_ast.specs.Grammar.{deepest, most, IsSpelled}
-use Rattle.actx_ast.specs.Nodes.{stmts_nodes}
-use Rattle.actx_ast.specs.Places.{stmts_places}
-use Rattle.actx_ast.specs.Static.{Kind, Offence, offences, first_offence}
-use Rattle.actx_ast.specs.Tree.{Stmts}
-use Rattle.actx_ast.proofs.NodeOffences.{in_order}
-use Rattle.actx_ast.proofs.NodePlaces.{places as every_place}
+use Rattle.actx_grammar.specs.declared.side.Side.TheVariants.{Source}
+use Rattle.actx_grammar.specs.Grammar.{deepest, most, IsSpelled}
+use Rattle.actx_grammar.specs.Nodes.{stmts_nodes}
+use Rattle.actx_grammar.specs.Places.{stmts_places}
+use Rattle.actx_grammar.specs.Static.{Kind, Offence, offences, first_offence}
+use Rattle.actx_grammar.specs.Tree.{Stmts}
+use Rattle.actx_laws.proofs.NodeOffences.{in_order}
+use Rattle.actx_laws.proofs.NodePlaces.{places as every_place}
 use Rattle.actx_lex.specs.declared.token.Token.{Token}
 use Rattle.actx_lex.specs.Lexemes.{lexemes}
 use Rattle.actx_parse.specs.Answers.{ArePlaces}

@@ -1,6 +1,6 @@
 -- The emitted text parses to the emitted program, and so the headline.
 use Rattle.std.proofs.Common.{List, ℕ, refl}
-use Rattle.actx_ast.specs.Tree.{Stmts}
+use Rattle.actx_grammar.specs.Tree.{Stmts}
 use Rattle.actx_emit.proofs.ReadBack.{printed_reads_back}
 use Rattle.actx_lex.specs.Lexemes.{lexemes}
 use Rattle.actx_top.specs.Accepts.{Takes, ReadsPlain}

@@ -1,7 +1,7 @@
 -- A text of which a byte more than it may have was read.
 use Rattle.std.proofs.Common.{◌≡◌, ◌==◌, ℕ, List, take, subst, arith}
 use Rattle.std.proofs.lemmas.List.{take_all, length-take, get_or-take}
-use Rattle.actx_ast.specs.Tree.{Stmts}
+use Rattle.actx_grammar.specs.Tree.{Stmts}
 use Rattle.actx_top.specs.Accepts.{Takes}
 use Rattle.actx_top.specs.Refusals.{Refuses, RefusedAt, too_long, within}
 use Rattle.actx_lex.specs.Places.{StandsAt, IsPlace}

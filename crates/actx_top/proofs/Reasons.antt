@@ -3,16 +3,16 @@ use Rattle.std.proofs.Common.{◌≡◌, ◌↔◌, ◌<◌, ◌≤◌, ℕ, Lis
 use Rattle.std.specs.Prelude.{All, IsErrOf}
 use Rattle.std.proofs.lemmas.Bool.{cases_lt}
 use Rattle.std.proofs.lemmas.List.Elements.{All-nil, All-cons, All-head, All-tail}
-use Rattle.actx_ast.specs.declared.side.Side.{Side}
-use Rattle.actx_ast.specs.declared.side.Side.TheVariants.{Source}
-use Rattle.actx_ast.specs.Exact.{BeginsWithin, UpTo, InForm}
-use Rattle.actx_ast.specs.Grammar.{IsSpelled}
-use Rattle.actx_ast.specs.Lexemes.{Lexeme}
-use Rattle.actx_ast.specs.Parser.{parse, refused, Reason, unexpected, too_deep, too_many}
-use Rattle.actx_ast.specs.Static.{Kind, Clean, undeclared, twice, reserved, misplaced, first_offence}
-use Rattle.actx_ast.specs.Tree.{Stmts}
-use Rattle.actx_ast.specs.Words.{HasForm}
-use Rattle.actx_ast.proofs.ReadyFirst.{refuses_first}
+use Rattle.actx_grammar.specs.declared.side.Side.{Side}
+use Rattle.actx_grammar.specs.declared.side.Side.TheVariants.{Source}
+use Rattle.actx_grammar.specs.Exact.{BeginsWithin, UpTo, InForm}
+use Rattle.actx_grammar.specs.Grammar.{IsSpelled}
+use Rattle.actx_grammar.specs.Lexemes.{Lexeme}
+use Rattle.actx_grammar.specs.Parser.{parse, refused, Reason, unexpected, too_deep, too_many}
+use Rattle.actx_grammar.specs.Static.{Kind, Clean, undeclared, twice, reserved, misplaced, first_offence}
+use Rattle.actx_grammar.specs.Tree.{Stmts}
+use Rattle.actx_grammar.specs.Words.{HasForm}
+use Rattle.actx_laws.proofs.ReadyFirst.{refuses_first}
 use Rattle.actx_lex.specs.declared.lex.LexFault.{LexFault}
 use Rattle.actx_lex.specs.declared.lex.LexFault.TheVariants as l
 use Rattle.actx_lex.specs.declared.token.Token.{Token}

@@ -1,12 +1,12 @@
 -- A text is one program at most, and where it is refused it is none.
 use Rattle.std.proofs.Common.{◌≡◌, ◌↔◌, ◌<◌, ◌≤◌, ◌∙◌, ℕ, List, [], None, Some, Bool, false, true, length, Result, Ok, Err, refl, sym, ap, subst, arith}
 use Rattle.std.specs.Prelude.{IfErr, IsErrOf}
-use Rattle.actx_ast.specs.declared.side.Side.TheVariants.{Source, Plain}
-use Rattle.actx_ast.specs.Grammar.{IsSpelled}
-use Rattle.actx_ast.specs.Parser.{Reason}
-use Rattle.actx_ast.specs.Static.{Kind, Clean, offences, first_offence}
-use Rattle.actx_ast.specs.Tree.{Stmts}
-use Rattle.actx_ast.proofs.ParseAll.{one_program}
+use Rattle.actx_grammar.specs.declared.side.Side.TheVariants.{Source, Plain}
+use Rattle.actx_grammar.specs.Grammar.{IsSpelled}
+use Rattle.actx_grammar.specs.Parser.{Reason}
+use Rattle.actx_grammar.specs.Static.{Kind, Clean, offences, first_offence}
+use Rattle.actx_grammar.specs.Tree.{Stmts}
+use Rattle.actx_laws.proofs.ParseAll.{one_program}
 use Rattle.actx_lex.specs.declared.token.Token.{Token}
 use Rattle.actx_lex.specs.declared.lex.LexFault.{LexFault}
 use Rattle.actx_lex.specs.declared.lex.LexFault.TheVariants as l

@@ -4,7 +4,7 @@ use Rattle.actx_match.specs.Runs.{run}
 use Rattle.actx_match.proofs.Runs.{run_add, run_fixed}
 use Rattle.actx_data.specs.declared.end.End.{End}
 use Rattle.actx_data.specs.declared.end.End.TheVariants.{Going, Ended, Threw, Left}
-use Rattle.actx_ast.specs.declared.side.Side.TheVariants.{Plain}
+use Rattle.actx_grammar.specs.declared.side.Side.TheVariants.{Plain}
 use Rattle.actx_top.specs.Machine.{step, goes}
 use Rattle.actx_top.specs.State.{State}
 use Rattle.actx_top.specs.MachineView.{state_of, going_or_over}

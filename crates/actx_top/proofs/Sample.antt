@@ -6,11 +6,11 @@ use Rattle.actx_data.specs.declared.shown.Shown.TheVariants as h
 use Rattle.actx_data.specs.declared.shown.ErrorName.TheVariants.{TypeError}
 use Rattle.actx_data.specs.declared.trace.TraceEvent.{TraceEvent}
 use Rattle.actx_data.specs.declared.trace.TraceEvent.TheVariants as e
-use Rattle.actx_ast.specs.declared.side.Side.{Side}
-use Rattle.actx_ast.specs.declared.side.Side.TheVariants.{Source, Plain}
-use Rattle.actx_ast.specs.declared.operators.Form.TheVariants.{Log, NewVariable}
-use Rattle.actx_ast.specs.declared.operators.FunctionKind.TheVariants.{Arrow}
-use Rattle.actx_ast.specs.Tree.{Expr, Num, Text, Named, Call, Built, none, also, some_expr, no_properties, Object, Stmt, Const, Value, Return, Stmts, end, next}
+use Rattle.actx_grammar.specs.declared.side.Side.{Side}
+use Rattle.actx_grammar.specs.declared.side.Side.TheVariants.{Source, Plain}
+use Rattle.actx_grammar.specs.declared.operators.Form.TheVariants.{Log, NewVariable}
+use Rattle.actx_grammar.specs.declared.operators.FunctionKind.TheVariants.{Arrow}
+use Rattle.actx_grammar.specs.Tree.{Expr, Num, Text, Named, Call, Built, none, also, some_expr, no_properties, Object, Stmt, Const, Value, Return, Stmts, end, next}
 use Rattle.actx_top.specs.State.{Task, ExecList, Frame, Store, State, Move, Goes, Writes, Stops}
 use Rattle.actx_top.specs.Machine.{row, at, stopped, no_store, first_heap}
 use Rattle.actx_top.specs.Low.{low}

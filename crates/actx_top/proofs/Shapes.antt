@@ -1,8 +1,8 @@
 -- Lists of statements and expressions with one more at their end.
 use Rattle.std.proofs.Common.{◌≡◌, List, [], ◌∷◌, ◌++◌, refl, ap}
-use Rattle.actx_ast.specs.Tree as t
-use Rattle.actx_ast.specs.Grammar.{with_last}
-use Rattle.actx_ast.specs.Parser.{with_stmt}
+use Rattle.actx_grammar.specs.Tree as t
+use Rattle.actx_grammar.specs.Grammar.{with_last}
+use Rattle.actx_grammar.specs.Parser.{with_stmt}
 use Rattle.actx_ast.specs.View.{expr_view, exprs_view, stmt_view, stmts_view}
 use Rattle.actx_ast.specs.declared.tree.Expr.{Expr}
 use Rattle.actx_ast.specs.declared.tree.Stmt.{Stmt}

@@ -3,7 +3,7 @@ use Rattle.std.proofs.Common.{List}
 use Rattle.actx_match.specs.Matching.{WithinFactor}
 use Rattle.actx_data.specs.declared.event.Event.{Event}
 use Rattle.actx_top.specs.Taken.{IsTaken}
-use Rattle.actx_ast.specs.Tree.{Stmts}
+use Rattle.actx_grammar.specs.Tree.{Stmts}
 use Rattle.actx_top.specs.Low.{low}
 use Rattle.actx_top.specs.Meaning.{Same, source_shows, target_shows}
 use Rattle.actx_top.specs.Weight.{source_cost}

@@ -1,9 +1,9 @@
 -- Which texts are programs.
 use Rattle.std.specs.Prelude.{ℕ, ◌≤◌, List, length}
-use Rattle.actx_ast.specs.declared.side.Side.TheVariants.{Source, Plain}
-use Rattle.actx_ast.specs.Grammar.{IsSpelled}
-use Rattle.actx_ast.specs.Static.{Clean}
-use Rattle.actx_ast.specs.Tree.{Stmts}
+use Rattle.actx_grammar.specs.declared.side.Side.TheVariants.{Source, Plain}
+use Rattle.actx_grammar.specs.Grammar.{IsSpelled}
+use Rattle.actx_grammar.specs.Static.{Clean}
+use Rattle.actx_grammar.specs.Tree.{Stmts}
 use Rattle.actx_lex.specs.declared.token.Token.{Token}
 use Rattle.actx_lex.specs.Lexical.{Tokens}
 use Rattle.actx_lex.specs.Lexemes.{lexemes}

@@ -12,7 +12,7 @@ use Rattle.actx_data.specs.declared.shown.Shown.{Shown}
 use Rattle.actx_data.specs.declared.shown.Shown.TheVariants as h
 use Rattle.actx_data.specs.declared.trace.TraceEvent.{TraceEvent}
 use Rattle.actx_top.specs.Texts.{same_text}
-use Rattle.actx_ast.specs.Tree.{Stmts}
+use Rattle.actx_grammar.specs.Tree.{Stmts}
 use Rattle.actx_top.specs.Headline.{emitted}
 use Rattle.actx_top.specs.Low.{low}
 use Rattle.actx_top.specs.Refusals.{RefusedAt}

@@ -7,8 +7,8 @@ use Rattle.std.specs.Prelude.{◌≡◌, ℕ, List}
 use Rattle.std.specs.Str.{encode_utf8_all}
 use Rattle.actx_top.specs.Accepts.{Takes, ReadsPlain}
 use Rattle.actx_emit.specs.Layout.{layout}
-use Rattle.actx_ast.specs.Spell.{spell_program}
-use Rattle.actx_ast.specs.Tree.{Stmts}
+use Rattle.actx_grammar.specs.Spell.{spell_program}
+use Rattle.actx_grammar.specs.Tree.{Stmts}
 use Rattle.actx_top.specs.Low.{low, OwnPart}
 use Rattle.actx_top.specs.Meaning.{Same}
 

@@ -8,7 +8,7 @@ use Rattle.actx_data.specs.declared.trace.TraceEvent.{TraceEvent}
 use Rattle.actx_data.specs.declared.trace.TraceEvent.TheVariants.{Get}
 use Rattle.actx_data.specs.declared.value.Value.{Value}
 use Rattle.actx_data.specs.declared.value.Value.TheVariants as v
-use Rattle.actx_ast.specs.declared.side.Side.TheVariants.{Plain as plain}
+use Rattle.actx_grammar.specs.declared.side.Side.TheVariants.{Plain as plain}
 use Rattle.actx_top.specs.Agent.{mapped_or, with_mapped}
 use Rattle.actx_top.specs.Machine.{at, takes, step, stopped, first, rest, option_of, call_thing}
 use Rattle.actx_top.specs.Prelude.{name_now, the_old}

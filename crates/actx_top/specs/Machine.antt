@@ -10,17 +10,17 @@ use Rattle.actx_data.specs.declared.trace.TraceEvent.{TraceEvent}
 use Rattle.actx_data.specs.declared.trace.TraceEvent.TheVariants.{Out, Get}
 use Rattle.actx_data.specs.declared.value.Value.{Value}
 use Rattle.actx_data.specs.declared.value.Value.TheVariants as v
-use Rattle.actx_ast.specs.declared.side.Side.{Side}
-use Rattle.actx_ast.specs.declared.side.Side.TheVariants as side
-use Rattle.actx_ast.specs.declared.operators.BinaryOp.{BinaryOp}
-use Rattle.actx_ast.specs.declared.operators.Form.{Form}
-use Rattle.actx_ast.specs.declared.operators.Form.TheVariants.{Log, NewVariable, NewWeakMap, Freeze, CallWith, Note}
-use Rattle.actx_ast.specs.declared.operators.FunctionKind.{FunctionKind}
-use Rattle.actx_ast.specs.declared.operators.FunctionKind.TheVariants.{Normal as normal_kind, Arrow as arrow_kind}
-use Rattle.actx_ast.specs.Grammar.{count}
-use Rattle.actx_ast.specs.ParserOperands.{suits}
-use Rattle.actx_ast.specs.Tree as t
-use Rattle.actx_ast.specs.Tree.{Expr, Exprs, PropKey, Properties, Code, ConstItems, Stmt, MaybeStmt, Stmts}
+use Rattle.actx_grammar.specs.declared.side.Side.{Side}
+use Rattle.actx_grammar.specs.declared.side.Side.TheVariants as side
+use Rattle.actx_grammar.specs.declared.operators.BinaryOp.{BinaryOp}
+use Rattle.actx_grammar.specs.declared.operators.Form.{Form}
+use Rattle.actx_grammar.specs.declared.operators.Form.TheVariants.{Log, NewVariable, NewWeakMap, Freeze, CallWith, Note}
+use Rattle.actx_grammar.specs.declared.operators.FunctionKind.{FunctionKind}
+use Rattle.actx_grammar.specs.declared.operators.FunctionKind.TheVariants.{Normal as normal_kind, Arrow as arrow_kind}
+use Rattle.actx_grammar.specs.Grammar.{count}
+use Rattle.actx_grammar.specs.ParserOperands.{suits}
+use Rattle.actx_grammar.specs.Tree as t
+use Rattle.actx_grammar.specs.Tree.{Expr, Exprs, PropKey, Properties, Code, ConstItems, Stmt, MaybeStmt, Stmts}
 use Rattle.actx_top.specs.Operators.{Answer, Gives, Throws, Leaves, binary, is_true}
 use Rattle.actx_top.specs.Printing.{line_of, is_line}
 use Rattle.actx_top.specs.Agent.{mapped_or, with_mapped, this_variable, variable_props}

@@ -2,9 +2,9 @@
 use Rattle.std.specs.Prelude.{List, [], map, option_map, reverse}
 use Rattle.actx_data.specs.declared.end.End.{End}
 use Rattle.actx_data.specs.declared.end.End.TheVariants.{Going}
-use Rattle.actx_ast.specs.declared.operators.Form.{Form}
-use Rattle.actx_ast.specs.declared.operators.Form.TheVariants as form
-use Rattle.actx_ast.specs.Tree.{Exprs, also, none}
+use Rattle.actx_grammar.specs.declared.operators.Form.{Form}
+use Rattle.actx_grammar.specs.declared.operators.Form.TheVariants as form
+use Rattle.actx_grammar.specs.Tree.{Exprs, also, none}
 use Rattle.actx_ast.specs.View.{expr_view, exprs_view, consts_view, maybe_stmt, properties_view, stmt_view, stmts_view}
 use Rattle.actx_top.specs.Chains.{chain_of}
 use Rattle.actx_top.specs.Machine.{at, stopped, keys_of, values_of}

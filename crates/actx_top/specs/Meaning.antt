@@ -9,8 +9,8 @@ use Rattle.actx_data.specs.declared.end.End.{End}
 use Rattle.actx_data.specs.declared.event.Event.{Event}
 use Rattle.actx_data.specs.declared.trace.TraceEvent.{TraceEvent}
 use Rattle.actx_data.specs.declared.trace.TraceEvent.TheVariants.{Out}
-use Rattle.actx_ast.specs.declared.side.Side.TheVariants.{Source, Plain}
-use Rattle.actx_ast.specs.Tree.{Stmts}
+use Rattle.actx_grammar.specs.declared.side.Side.TheVariants.{Source, Plain}
+use Rattle.actx_grammar.specs.Tree.{Stmts}
 use Rattle.actx_top.specs.State.{State}
 use Rattle.actx_top.specs.Machine.{step, start, end_of}
 

@@ -8,8 +8,8 @@ use Rattle.actx_data.specs.declared.shown.ErrorName.{ErrorName}
 use Rattle.actx_data.specs.declared.value.Value.{Value}
 use Rattle.actx_data.specs.declared.value.Value.TheVariants as v
 use Rattle.actx_top.specs.Texts.{same_text}
-use Rattle.actx_ast.specs.declared.operators.BinaryOp.{BinaryOp}
-use Rattle.actx_ast.specs.declared.operators.BinaryOp.TheVariants as o
+use Rattle.actx_grammar.specs.declared.operators.BinaryOp.{BinaryOp}
+use Rattle.actx_grammar.specs.declared.operators.BinaryOp.TheVariants as o
 
 -- the answer of an operation: a value, an error that is thrown, or that the run leaves the profile
 pub data Answer : Type 0 where

@@ -52,11 +52,11 @@
 -- A mapping is a list of frozen objects, one a variable, whose last one's rest is undefined. What is no variable has no
 -- state, and reading its number throws TypeError. A name that is no text has no length: the read leaves the profile.
 use Rattle.std.specs.Prelude.{ℕ, List, [], ◌∷◌, None, codes}
-use Rattle.actx_ast.specs.declared.operators.BinaryOp.TheVariants.{Add, Same}
-use Rattle.actx_ast.specs.declared.operators.Form.TheVariants.{NewWeakMap, Freeze, CallWith, Note}
-use Rattle.actx_ast.specs.declared.operators.FunctionKind.{FunctionKind}
-use Rattle.actx_ast.specs.declared.operators.FunctionKind.TheVariants.{Normal, Arrow}
-use Rattle.actx_ast.specs.Tree.{Expr, Num, Text, Undefined, This, Named, Binary, Member, SetMember, Call, Object, Function, Built, Exprs, none, also, some_expr, Dot, Fixed, Properties, no_properties, property, code, no_consts, const_item, Stmt, Const, Value, Return, Block, If, Try, no_stmt, no_catch, last, Stmts, end, next}
+use Rattle.actx_grammar.specs.declared.operators.BinaryOp.TheVariants.{Add, Same}
+use Rattle.actx_grammar.specs.declared.operators.Form.TheVariants.{NewWeakMap, Freeze, CallWith, Note}
+use Rattle.actx_grammar.specs.declared.operators.FunctionKind.{FunctionKind}
+use Rattle.actx_grammar.specs.declared.operators.FunctionKind.TheVariants.{Normal, Arrow}
+use Rattle.actx_grammar.specs.Tree.{Expr, Num, Text, Undefined, This, Named, Binary, Member, SetMember, Call, Object, Function, Built, Exprs, none, also, some_expr, Dot, Fixed, Properties, no_properties, property, code, no_consts, const_item, Stmt, Const, Value, Return, Block, If, Try, no_stmt, no_catch, last, Stmts, end, next}
 
 -- NAMES
 abbrev pub name_states : List ℕ

@@ -1,12 +1,12 @@
 -- WHY AND WHERE A TEXT IS NOT LOWERED: each number of a refusal with its cause, and the byte at which it stands.
 use Rattle.std.specs.Prelude.{◌≡◌, ℕ, zero, suc, ◌≤◌, ◌<◌, List, [], ◌∷◌, length, true, false, Some, slice_get}
-use Rattle.actx_ast.specs.declared.side.Side.TheVariants.{Source}
-use Rattle.actx_ast.specs.Exact.{IsFirst, IsReason}
-use Rattle.actx_ast.specs.Grammar.{IsSpelled}
-use Rattle.actx_ast.specs.Parser.{Reason, unexpected, too_deep, too_many}
-use Rattle.actx_ast.specs.Places.{stmts_places}
-use Rattle.actx_ast.specs.Static.{Kind, undeclared, twice, reserved, misplaced, first_offence}
-use Rattle.actx_ast.specs.Tree.{Stmts}
+use Rattle.actx_grammar.specs.declared.side.Side.TheVariants.{Source}
+use Rattle.actx_grammar.specs.Exact.{IsFirst, IsReason}
+use Rattle.actx_grammar.specs.Grammar.{IsSpelled}
+use Rattle.actx_grammar.specs.Parser.{Reason, unexpected, too_deep, too_many}
+use Rattle.actx_grammar.specs.Places.{stmts_places}
+use Rattle.actx_grammar.specs.Static.{Kind, undeclared, twice, reserved, misplaced, first_offence}
+use Rattle.actx_grammar.specs.Tree.{Stmts}
 use Rattle.actx_lex.specs.declared.token.Token.{Token}
 use Rattle.actx_lex.specs.Lexical.{NotText, Stuck, Tokens}
 use Rattle.actx_lex.specs.Lexemes.{lexemes}

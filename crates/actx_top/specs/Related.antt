@@ -6,16 +6,16 @@ use Rattle.actx_data.specs.declared.shown.ErrorName.{ErrorName}
 use Rattle.actx_data.specs.declared.trace.TraceEvent.{TraceEvent}
 use Rattle.actx_data.specs.declared.value.Value.{Value}
 use Rattle.actx_data.specs.declared.value.Value.TheVariants as v
-use Rattle.actx_ast.specs.declared.operators.BinaryOp.{BinaryOp}
-use Rattle.actx_ast.specs.declared.operators.Form.TheVariants.{Log, NewVariable}
-use Rattle.actx_ast.specs.declared.operators.FunctionKind.TheVariants.{Normal as normal_kind, Arrow as arrow_kind}
-use Rattle.actx_ast.specs.Grammar.{count}
+use Rattle.actx_grammar.specs.declared.operators.BinaryOp.{BinaryOp}
+use Rattle.actx_grammar.specs.declared.operators.Form.TheVariants.{Log, NewVariable}
+use Rattle.actx_grammar.specs.declared.operators.FunctionKind.TheVariants.{Normal as normal_kind, Arrow as arrow_kind}
+use Rattle.actx_grammar.specs.Grammar.{count}
 use Rattle.actx_top.specs.Texts.{same_text}
 use Rattle.actx_top.specs.Taken.{longest_text}
-use Rattle.actx_ast.specs.Names.{IsKey}
-use Rattle.actx_ast.specs.declared.side.Side.TheVariants.{Plain as plain}
-use Rattle.actx_ast.specs.Tree as t
-use Rattle.actx_ast.specs.Tree.{Expr, Exprs, Properties, ConstItems, Stmt, Stmts}
+use Rattle.actx_grammar.specs.Names.{IsKey}
+use Rattle.actx_grammar.specs.declared.side.Side.TheVariants.{Plain as plain}
+use Rattle.actx_grammar.specs.Tree as t
+use Rattle.actx_grammar.specs.Tree.{Expr, Exprs, Properties, ConstItems, Stmt, Stmts}
 use Rattle.actx_top.specs.Low.{p_}
 use Rattle.actx_top.specs.Prelude.{name_states, name_now, name_find, name_with, name_get, name_run, name_make, name_variable, the_list, the_number, the_other, the_value, the_old, the_f, the_name, the_options, the_arguments, key_number, key_value, key_rest, key_mapping, key_count, find_body, with_body, get_body, run_body, run_last, make_body, variable_body}
 use Rattle.actx_top.specs.Properties.{prop_of}

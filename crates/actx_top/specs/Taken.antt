@@ -1,13 +1,13 @@
 -- THE FORMS THAT RUN: the first node of a tree that doesn't, by its number; n is the number of the tree's first node.
 use Rattle.std.specs.Prelude.{◌≡◌, ℕ, suc, ◌+◌, nat_le, List, [], ◌∷◌, length, Bool, true, false, Option, Some, None, codes}
-use Rattle.actx_ast.specs.declared.operators.BinaryOp.{BinaryOp}
-use Rattle.actx_ast.specs.declared.operators.BinaryOp.TheVariants as o
-use Rattle.actx_ast.specs.declared.operators.Form.TheVariants.{Log, NewVariable}
-use Rattle.actx_ast.specs.declared.operators.FunctionKind.TheVariants.{Arrow}
-use Rattle.actx_ast.specs.Grammar.{count}
-use Rattle.actx_ast.specs.Nodes.{expr_nodes, prop_key_nodes, stmt_nodes}
-use Rattle.actx_ast.specs.Static.{is_among}
-use Rattle.actx_ast.specs.Tree.{Expr, Num, Text, Undefined, Named, Binary, Member, Call, Object, Function, Built, Exprs, none, also, MaybeExpr, no_expr, some_expr, Key, Dot, Index, PropKey, Fixed, Computed, Properties, no_properties, property, Code, code, ConstItems, no_consts, const_item, Stmt, Const, Value, Return, Stmts, end, next}
+use Rattle.actx_grammar.specs.declared.operators.BinaryOp.{BinaryOp}
+use Rattle.actx_grammar.specs.declared.operators.BinaryOp.TheVariants as o
+use Rattle.actx_grammar.specs.declared.operators.Form.TheVariants.{Log, NewVariable}
+use Rattle.actx_grammar.specs.declared.operators.FunctionKind.TheVariants.{Arrow}
+use Rattle.actx_grammar.specs.Grammar.{count}
+use Rattle.actx_grammar.specs.Nodes.{expr_nodes, prop_key_nodes, stmt_nodes}
+use Rattle.actx_grammar.specs.Static.{is_among}
+use Rattle.actx_grammar.specs.Tree.{Expr, Num, Text, Undefined, Named, Binary, Member, Call, Object, Function, Built, Exprs, none, also, MaybeExpr, no_expr, some_expr, Key, Dot, Index, PropKey, Fixed, Computed, Properties, no_properties, property, Code, code, ConstItems, no_consts, const_item, Stmt, Const, Value, Return, Stmts, end, next}
 use Rattle.actx_top.specs.State.{or_else}
 
 -- the properties that a program of today reads

@@ -3,10 +3,10 @@
 use Rattle.std.specs.Prelude.{ℕ, suc, ◌+◌, List, ◌∷◌, length}
 use Rattle.actx_match.specs.Runs.{cost}
 use Rattle.actx_data.specs.declared.event.Event.{Event}
-use Rattle.actx_ast.specs.declared.side.Side.TheVariants.{Source}
-use Rattle.actx_ast.specs.Tree as t
-use Rattle.actx_ast.specs.Tree.{Stmts}
-use Rattle.actx_ast.specs.Nodes.{expr_nodes, stmt_nodes, stmts_nodes}
+use Rattle.actx_grammar.specs.declared.side.Side.TheVariants.{Source}
+use Rattle.actx_grammar.specs.Tree as t
+use Rattle.actx_grammar.specs.Tree.{Stmts}
+use Rattle.actx_grammar.specs.Nodes.{expr_nodes, stmt_nodes, stmts_nodes}
 use Rattle.actx_top.specs.State.{Throw, Task, Eval, Exec, ExecList, ExecBody, Given, Done, Call, Frame, Pending, Store, Now, Doing, Over, State}
 use Rattle.actx_top.specs.Machine.{step, start}
 

@@ -6,7 +6,7 @@ ghost use Rattle.std.specs.Cmp.Rules.{comparing, hashing};
 ghost use Rattle.std.specs.Cmp.Lexicographic.{pointwise};
 ghost use Rattle.std.specs.Hash as fed;
 
-use actx_ast::name::Name;
+use actx_grammar::name::Name;
 use actx_data::{NoMemory, Units};
 use std::alloc::Global;
 use std::hash::{Hash, Hasher};

@@ -2,13 +2,13 @@
 
 ghost use Rattle.std.specs.Prelude.{ℕ, List};
 ghost use Rattle.actx_data.specs.declared.event.Event.{Event};
-ghost use Rattle.actx_ast.specs.declared.side.Side.TheVariants.{Source, Plain};
-ghost use Rattle.actx_ast.specs.Grammar.{IsSpelled};
-ghost use Rattle.actx_ast.specs.Layout.{laid};
-ghost use Rattle.actx_ast.specs.Lexemes.{Lexeme};
-ghost use Rattle.actx_ast.specs.Spell.{spell_program};
+ghost use Rattle.actx_grammar.specs.declared.side.Side.TheVariants.{Source, Plain};
+ghost use Rattle.actx_grammar.specs.Grammar.{IsSpelled};
+ghost use Rattle.actx_grammar.specs.Layout.{laid};
+ghost use Rattle.actx_grammar.specs.Lexemes.{Lexeme};
+ghost use Rattle.actx_grammar.specs.Spell.{spell_program};
 ghost use Rattle.actx_top.specs.Taken.{IsTaken};
-ghost use Rattle.actx_ast.specs.Tree.{Stmts};
+ghost use Rattle.actx_grammar.specs.Tree.{Stmts};
 ghost use Rattle.actx_match.specs.Matching.{WithinFactor};
 ghost use Rattle.actx_top.specs.Laws.{Laws};
 ghost use Rattle.actx_top.specs.Weight.{source_cost};

@@ -1,7 +1,7 @@
 //! The machine that runs a plain program, one row of the step table a step.
 
 ghost use Rattle.std.specs.Prelude.{◌≡◌, [], IfOk, reverse};
-ghost use Rattle.actx_ast.specs.declared.side.Side.TheVariants.{Plain};
+ghost use Rattle.actx_grammar.specs.declared.side.Side.TheVariants.{Plain};
 ghost use Rattle.actx_ast.specs.View.{stmts_view};
 ghost use Rattle.actx_top.specs.Machine.{start, first_heap};
 ghost use Rattle.actx_top.specs.MachineView.{state_of};
@@ -22,8 +22,8 @@ use crate::scope::Scope;
 use crate::shown::ShownThings;
 use crate::sound::Sound;
 use crate::thing::{Method, Thing};
-use actx_ast::name::Name;
-use actx_ast::operators::BinaryOp;
+use actx_grammar::name::Name;
+use actx_grammar::operators::BinaryOp;
 use actx_ast::tree::{ConstItem, Expr, Property, Stmt};
 use actx_data::{End, Event, NoMemory, TraceEvent};
 pub use expressions::count;

@@ -8,7 +8,7 @@ ghost use Rattle.actx_top.specs.Operators.{plus, minus, times, binary, same, is_
 ghost use Rattle.actx_top.specs.View.{answer_view};
 
 use crate::sound::Sound;
-use actx_ast::operators::BinaryOp;
+use actx_grammar::operators::BinaryOp;
 use actx_data::{ErrorName, NoMemory, Twin, Units, Value, add, join, mul, number_text, sub};
 use std::alloc::Global;
 

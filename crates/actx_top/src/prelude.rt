@@ -1,15 +1,15 @@
 //! The prelude that stands before every emitted program, as a tree; its text and what each function does stand in specs.
 
 ghost use Rattle.std.specs.Prelude.{◌≡◌, IfOk, [], ◌∷◌, codes};
-ghost use Rattle.actx_ast.specs.Tree as t;
+ghost use Rattle.actx_grammar.specs.Tree as t;
 ghost use Rattle.actx_ast.specs.View.{expr_view, exprs_view, stmt_view, stmts_view};
 ghost use Rattle.actx_top.specs.Prelude as spec;
 
 mod functions;
 mod shapes;
 
-use actx_ast::name::Name;
-use actx_ast::operators::{Form, FunctionKind};
+use actx_grammar::name::Name;
+use actx_grammar::operators::{Form, FunctionKind};
 use actx_ast::tree::{Expr, Function, Stmt};
 use actx_data::{NoMemory, Units};
 use functions::{find_body, get_body, make_body, run_body, variable_body, with_body};

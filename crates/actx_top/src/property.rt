@@ -12,7 +12,7 @@ use crate::sound::Sound;
 use crate::table::Table;
 use crate::thing::Thing;
 use crate::word::{is_inherited, is_word};
-use actx_ast::name::Name;
+use actx_grammar::name::Name;
 use actx_data::{ErrorName, NoMemory, Twin, Units, Value};
 use std::alloc::Global;
 

@@ -1,12 +1,12 @@
 //! Texts as programs, and as emitted texts: `const a = 1;` is read as a program of one constant, and `const a = b;` is refused.
 
 ghost use Rattle.std.specs.Prelude.{◌≡◌, ◌≤◌, length, All, IfOk, IfErr, OnOk};
-ghost use Rattle.actx_ast.specs.declared.side.Side.TheVariants.{Source};
-ghost use Rattle.actx_ast.specs.Grammar.{IsSpelled};
-ghost use Rattle.actx_ast.specs.Static.{Clean};
-ghost use Rattle.actx_ast.specs.Tree.{Stmts};
+ghost use Rattle.actx_grammar.specs.declared.side.Side.TheVariants.{Source};
+ghost use Rattle.actx_grammar.specs.Grammar.{IsSpelled};
+ghost use Rattle.actx_grammar.specs.Static.{Clean};
+ghost use Rattle.actx_grammar.specs.Tree.{Stmts};
 ghost use Rattle.actx_ast.specs.View.{program_view};
-ghost use Rattle.actx_ast.specs.Words.{HasForm};
+ghost use Rattle.actx_grammar.specs.Words.{HasForm};
 ghost use Rattle.actx_lex.specs.Lexical as lexical;
 ghost use Rattle.actx_lex.specs.Lexemes.{lexemes};
 ghost use Rattle.actx_parse.specs.Answers.{ArePlaces};
@@ -17,7 +17,7 @@ ghost use Rattle.actx_top.specs.Taken.{IsTaken};
 ghost use Rattle.actx_top.specs.declared.read.TextFault.TheVariants as fault;
 
 use crate::taken::{Stop, all_taken};
-use actx_ast::side::Side;
+use actx_grammar::side::Side;
 use actx_ast::tree::Program;
 use actx_data::NoMemory;
 use actx_lex::lex::{LexFault, lex};

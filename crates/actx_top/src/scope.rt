@@ -8,7 +8,7 @@ ghost use Rattle.actx_top.specs.State.{cell_of, set_cell, with_cell, unset, para
 ghost use Rattle.actx_top.specs.View.{reading_of, found_value, standing_of};
 
 use crate::sound::Sound;
-use actx_ast::name::Name;
+use actx_grammar::name::Name;
 use actx_data::{NoMemory, Twin};
 use indexmap::IndexMap;
 use std::alloc::Global;

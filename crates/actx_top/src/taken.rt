@@ -1,10 +1,10 @@
 //! Which forms of a program run today: a walk over its nodes that stops at the first whose form doesn't.
 
 ghost use Rattle.std.specs.Prelude.{◌≡◌, ◌+◌, suc, nat_le, None, IfOk, IfErr, OnOk, option_map};
-ghost use Rattle.actx_ast.specs.Grammar.{count};
-ghost use Rattle.actx_ast.specs.Nodes.{expr_nodes, key_nodes, prop_key_nodes, exprs_nodes, properties_nodes, code_nodes, consts_nodes, maybe_nodes, stmt_nodes, stmts_nodes};
-ghost use Rattle.actx_ast.specs.Static.{is_among};
-ghost use Rattle.actx_ast.specs.Tree as t;
+ghost use Rattle.actx_grammar.specs.Grammar.{count};
+ghost use Rattle.actx_grammar.specs.Nodes.{expr_nodes, key_nodes, prop_key_nodes, exprs_nodes, properties_nodes, code_nodes, consts_nodes, maybe_nodes, stmt_nodes, stmts_nodes};
+ghost use Rattle.actx_grammar.specs.Static.{is_among};
+ghost use Rattle.actx_grammar.specs.Tree as t;
 ghost use Rattle.actx_ast.specs.View.{expr_view, exprs_view, key_view, prop_key_view, property_view, properties_view, const_view, consts_view, function_view, maybe_expr, stmt_view, stmts_view, program_view};
 ghost use Rattle.actx_top.specs.Faults.{StopsAt};
 ghost use Rattle.actx_top.specs.State.{or_else};
@@ -12,8 +12,8 @@ ghost use Rattle.actx_top.specs.Taken as spec;
 
 use crate::machine::count;
 use crate::word::is_word;
-use actx_ast::name::Name;
-use actx_ast::operators::{BinaryOp, Form, FunctionKind};
+use actx_grammar::name::Name;
+use actx_grammar::operators::{BinaryOp, Form, FunctionKind};
 use actx_ast::tree::{ConstItem, Expr, Function, Key, Program, PropKey, Property, Stmt};
 
 /// The greatest number of units of a text.

@@ -2,7 +2,7 @@
 
 ghost use Rattle.std.specs.Prelude.{◌≡◌, ◌≢◌, ◌⊎◌, ◌==◌, ◌+◌, ℕ, List, length, take, map, Option, string_bytes, codes, Some, None, IfSome, IfNone, IfOk, IfErr};
 ghost use Rattle.actx_ports.specs.Ports.{Rose};
-ghost use Rattle.actx_ast.specs.Tree.{Stmts};
+ghost use Rattle.actx_grammar.specs.Tree.{Stmts};
 ghost use Rattle.actx_ast.specs.View.{program_view};
 ghost use Rattle.actx_top.specs.Accepts.{Takes};
 ghost use Rattle.actx_top.specs.Answers.{begins_with_dash, mode_named, command_of, file_of, run_shows, status_of, status_in, output_in, Did, Wrote, TellsThrow, TellsRefusal, Explains};

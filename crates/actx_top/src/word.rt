@@ -4,7 +4,7 @@ ghost use Rattle.std.specs.Prelude.{◌≡◌};
 ghost use Rattle.actx_top.specs.Texts.{same_text};
 ghost use Rattle.actx_top.specs.Properties.{is_proto, is_inherited};
 
-use actx_ast::name::Name;
+use actx_grammar::name::Name;
 use actx_data::Units;
 
 /// Whether the name is this word of ASCII characters.

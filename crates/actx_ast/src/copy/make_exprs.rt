@@ -2,11 +2,11 @@
 
 ghost use Rattle.std.specs.Prelude.{◌≡◌, ◌∷◌, IfOk, List, option_map};
 ghost use Rattle.actx_ast.specs.Copies.{Seen, an_expr, code_onto, copied, expr_made, expr_onto, key_onto, maybe_onto, prop_key_onto, with_code, with_key, with_maybe, with_prop_key};
-ghost use Rattle.actx_ast.specs.Tree as t;
+ghost use Rattle.actx_grammar.specs.Tree as t;
 ghost use Rattle.actx_ast.specs.View.{expr_view, function_view, key_view, maybe_expr, prop_key_view};
 
 use super::done::{Copied, take_boxed_expr, take_exprs, take_properties, take_stmts};
-use crate::name::Name;
+use actx_grammar::name::Name;
 use crate::tree::{Expr, Function, Key, PropKey};
 use actx_data::{NoMemory, Twin};
 use std::alloc::Global;

@@ -2,7 +2,7 @@
 
 ghost use Rattle.std.specs.Prelude.{◌≡◌, ◌∷◌, IfOk, List, map, option_map};
 ghost use Rattle.actx_ast.specs.Copies.{Seen, a_stmt, catch_onto, copied, init_onto, last_onto, maybe_onto, maybe_stmt_onto, stmt_made, stmt_onto, with_catch, with_init, with_last, with_maybe, with_maybe_stmt};
-ghost use Rattle.actx_ast.specs.Tree as t;
+ghost use Rattle.actx_grammar.specs.Tree as t;
 ghost use Rattle.actx_ast.specs.View.{catch_of, catcher_view, expr_view, init_view, last_of, maybe_expr, maybe_stmt, stmt_view};
 
 use super::done::{

@@ -1,7 +1,7 @@
 //! Copies, which are printed as what they were made of.
 
-use crate::name::Name;
-use crate::operators::FunctionKind;
+use actx_grammar::name::Name;
+use actx_grammar::operators::FunctionKind;
 use crate::spell::spell;
 use crate::tests::{nest, nest_stmt, wrap, wrap_stmt};
 use crate::tree::{

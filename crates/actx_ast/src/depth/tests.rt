@@ -1,7 +1,7 @@
 //! Programs and how deep they go.
 
 use super::depth;
-use crate::operators::{BinaryOp, FunctionKind, UnaryOp};
+use actx_grammar::operators::{BinaryOp, FunctionKind, UnaryOp};
 use crate::tests::{nest, nest_stmt};
 use crate::tree::{Expr, Function, Program, Stmt};
 use std::alloc::{AllocError, Global};

@@ -2,16 +2,16 @@
 
 ghost use Rattle.std.specs.Prelude.{◌≡◌, ◌≤◌, ◌↔◌, None, false, IsTrue};
 ghost use Rattle.actx_ast.specs.Clauses.{DefaultLast, IsNumber};
-ghost use Rattle.actx_ast.specs.Grammar.{IsBody, ends_open};
-ghost use Rattle.actx_ast.specs.Sides.{IsFormOf};
-ghost use Rattle.actx_ast.specs.Tree as tree;
+ghost use Rattle.actx_grammar.specs.Grammar.{IsBody, ends_open};
+ghost use Rattle.actx_grammar.specs.Sides.{IsFormOf};
+ghost use Rattle.actx_grammar.specs.Tree as tree;
 ghost use Rattle.actx_ast.specs.View.{clause_view, clauses_view, consts_view, exprs_view, lets_view, stmt_view};
-ghost use Rattle.actx_ast.specs.Words.{HasForm, greatest_number};
-ghost use Rattle.actx_ast.specs.declared.token.TokenKind.TheVariants as TokenKind;
+ghost use Rattle.actx_grammar.specs.Words.{HasForm, greatest_number};
+ghost use Rattle.actx_grammar.specs.declared.token.TokenKind.TheVariants as TokenKind;
 
-use crate::forms::{has_words, suits};
-use crate::operators::Form;
-use crate::side::Side;
+use actx_grammar::forms::{has_words, suits};
+use actx_grammar::operators::Form;
+use actx_grammar::side::Side;
 use crate::tree::{Clause, ConstItem, Expr, LetItem, Stmt};
 use actx_data::Units;
 

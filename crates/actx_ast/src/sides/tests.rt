@@ -1,7 +1,7 @@
 //! Programs that one side spells, both or none.
 
-use super::super::name::Name;
-use super::super::operators::{Form, FunctionKind};
+use actx_grammar::name::Name;
+use actx_grammar::operators::{Form, FunctionKind};
 use super::super::tree::{Clause, Expr, Function, Key, Program, Stmt};
 use super::{is_plain, is_source};
 use crate::tests::{wrap, wrap_stmt};

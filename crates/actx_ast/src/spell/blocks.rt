@@ -2,15 +2,15 @@
 
 ghost use Rattle.std.specs.Prelude.{◌≡◌, ◌≤◌, ◌<◌, ◌+◌, ◌++◌, ◌∷◌, option_map, OnOk};
 ghost use Rattle.actx_ast.specs.Sizes.{catch_size, clauses_size, expr_size, stmts_size};
-ghost use Rattle.actx_ast.specs.Spell as spec;
-ghost use Rattle.actx_ast.specs.Tree as node;
+ghost use Rattle.actx_grammar.specs.Spell as spec;
+ghost use Rattle.actx_grammar.specs.Tree as node;
 ghost use Rattle.actx_ast.specs.Unspelled.{rest_of, weigh};
 ghost use Rattle.actx_ast.specs.View.{catch_of, catcher_view, clause_view, clauses_view, expr_view, stmts_view};
 
 use super::calls::block;
 use super::loops::headed;
 use super::{Work, keyword, mark, push, sign};
-use crate::token::{Keyword, Sign, TokenKind};
+use actx_grammar::token::{Keyword, Sign, TokenKind};
 use crate::tree::{Catcher, Clause, Expr, Stmt};
 use actx_data::{NoMemory, Twin};
 use std::alloc::Global;

@@ -1,19 +1,19 @@
 //! Calls, objects and functions that are spelled next: `f ( 1 )`, `{ "a" : 1 }`, `function ( ) { }`.
 
 ghost use Rattle.std.specs.Prelude.{◌≡◌, ◌≤◌, ◌+◌, ◌++◌, OnOk};
-ghost use Rattle.actx_ast.specs.Forms as forms;
+ghost use Rattle.actx_grammar.specs.Forms as forms;
 ghost use Rattle.actx_ast.specs.Sizes.{code_size, expr_size, exprs_size, properties_size, stmts_size};
-ghost use Rattle.actx_ast.specs.Spell as spec;
+ghost use Rattle.actx_grammar.specs.Spell as spec;
 ghost use Rattle.actx_ast.specs.Starts.{start_of};
-ghost use Rattle.actx_ast.specs.Tree as node;
+ghost use Rattle.actx_grammar.specs.Tree as node;
 ghost use Rattle.actx_ast.specs.Unspelled.{bare, rest_of, weigh};
 ghost use Rattle.actx_ast.specs.View.{expr_view, exprs_view, function_view, properties_view, stmts_view};
 
 use super::lists::{arguments, list_properties};
 use super::put::word;
 use super::{Work, mark, push, sign};
-use crate::operators::Form;
-use crate::token::Sign;
+use actx_grammar::operators::Form;
+use actx_grammar::token::Sign;
 use crate::tree::{Expr, Function, Property, Stmt};
 use actx_data::NoMemory;
 use std::alloc::Global;

@@ -2,10 +2,10 @@
 
 ghost use Rattle.std.specs.Prelude.{◌≡◌, ◌≤◌, ◌<◌, ◌+◌, ◌++◌, ◌∷◌, OnOk};
 ghost use Rattle.actx_ast.specs.Sizes.{expr_size, key_size};
-ghost use Rattle.actx_ast.specs.Spell as spec;
-ghost use Rattle.actx_ast.specs.Spell.{inner};
+ghost use Rattle.actx_grammar.specs.Spell as spec;
+ghost use Rattle.actx_grammar.specs.Spell.{inner};
 ghost use Rattle.actx_ast.specs.Starts.{start_of};
-ghost use Rattle.actx_ast.specs.Tree as node;
+ghost use Rattle.actx_grammar.specs.Tree as node;
 ghost use Rattle.actx_ast.specs.Unspelled.{bare, needs_parens, rest_of, weigh};
 ghost use Rattle.actx_ast.specs.View.{expr_view, key_view};
 
@@ -13,10 +13,10 @@ use super::calls::{call, form_call, function, object};
 use super::put::word;
 use super::signs::{bump_sign, change_sign, logic_sign, sign_of, unary_word};
 use super::{Work, keyword, mark, push, sign};
-use crate::keywords::word_token;
+use actx_grammar::keywords::word_token;
 use crate::levels::{is_wrapped, left_level, level_of, logic_level, right_level};
-use crate::name::Name;
-use crate::token::{Keyword, Sign, TokenKind};
+use actx_grammar::name::Name;
+use actx_grammar::token::{Keyword, Sign, TokenKind};
 use crate::tree::{Expr, Key};
 use actx_data::{NoMemory, Twin};
 use std::alloc::Global;

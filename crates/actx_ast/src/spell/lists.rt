@@ -2,14 +2,14 @@
 
 ghost use Rattle.std.specs.Prelude.{◌≡◌, ◌≤◌, ◌<◌, ◌+◌, ◌++◌, ◌∷◌, OnOk};
 ghost use Rattle.actx_ast.specs.Sizes.{consts_size, expr_size, exprs_size, lets_size, maybe_size, prop_key_size, properties_size};
-ghost use Rattle.actx_ast.specs.Spell as spec;
-ghost use Rattle.actx_ast.specs.Spell.{inner};
+ghost use Rattle.actx_grammar.specs.Spell as spec;
+ghost use Rattle.actx_grammar.specs.Spell.{inner};
 ghost use Rattle.actx_ast.specs.Unspelled.{rest_of, weigh};
 ghost use Rattle.actx_ast.specs.View.{const_view, consts_view, expr_view, exprs_view, let_view, lets_view, prop_key_view, properties_view, property_view};
 
 use super::exprs::in_brackets;
 use super::{Work, mark, push, sign};
-use crate::token::{Sign, TokenKind};
+use actx_grammar::token::{Sign, TokenKind};
 use crate::tree::{ConstItem, Expr, LetItem, PropKey, Property};
 use actx_data::{NoMemory, Twin};
 use std::alloc::Global;

@@ -2,17 +2,17 @@
 
 ghost use Rattle.std.specs.Prelude.{◌≡◌, ◌≤◌, ◌+◌, ◌++◌, ◌∷◌, codes, option_map, OnOk};
 ghost use Rattle.actx_ast.specs.Sizes.{expr_size, init_size, maybe_size, stmt_size};
-ghost use Rattle.actx_ast.specs.Spell as spec;
-ghost use Rattle.actx_ast.specs.Spell.{inner};
-ghost use Rattle.actx_ast.specs.Tree as node;
+ghost use Rattle.actx_grammar.specs.Spell as spec;
+ghost use Rattle.actx_grammar.specs.Spell.{inner};
+ghost use Rattle.actx_grammar.specs.Tree as node;
 ghost use Rattle.actx_ast.specs.Unspelled.{rest_of, weigh};
 ghost use Rattle.actx_ast.specs.View.{expr_view, init_view, maybe_expr, stmt_view};
 
 use super::lists::{list_consts, list_lets};
 use super::put::word;
 use super::{Work, keyword, mark, push, sign};
-use crate::name::Name;
-use crate::token::{Keyword, Sign, TokenKind};
+use actx_grammar::name::Name;
+use actx_grammar::token::{Keyword, Sign, TokenKind};
 use crate::tree::{Expr, ForInit, Stmt};
 use actx_data::{NoMemory, Twin};
 use std::alloc::Global;

@@ -1,12 +1,12 @@
 //! Tokens that are put at the end of a list: `async function * a ( b )`, or the words of a form, as `console . log`.
 
 ghost use Rattle.std.specs.Prelude.{◌≡◌, ◌++◌, ◌∷◌, [], List, ℕ, IfOk, OnOk};
-ghost use Rattle.actx_ast.specs.Forms.{error_text, form_words};
-ghost use Rattle.actx_ast.specs.Spell.{own_name, spell_head, spell_more_names, spell_names, spell_params};
+ghost use Rattle.actx_grammar.specs.Forms.{error_text, form_words};
+ghost use Rattle.actx_grammar.specs.Spell.{own_name, spell_head, spell_more_names, spell_names, spell_params};
 
-use crate::name::Name;
-use crate::operators::{Form, FunctionKind};
-use crate::token::{Keyword, Sign, TokenKind};
+use actx_grammar::name::Name;
+use actx_grammar::operators::{Form, FunctionKind};
+use actx_grammar::token::{Keyword, Sign, TokenKind};
 use crate::tree::Function;
 use actx_data::{ErrorName, NoMemory, Twin};
 use std::alloc::Global;

@@ -1,11 +1,11 @@
 //! The signs of operators: `+`, `&&`, `*=`.
 
 ghost use Rattle.std.specs.Prelude.{◌≡◌};
-ghost use Rattle.actx_ast.specs.Forms as forms;
-ghost use Rattle.actx_ast.specs.Spell as spec;
+ghost use Rattle.actx_grammar.specs.Forms as forms;
+ghost use Rattle.actx_grammar.specs.Spell as spec;
 
-use crate::operators::{BinaryOp, LogicOp, UnaryOp};
-use crate::token::{Keyword, Sign, TokenKind};
+use actx_grammar::operators::{BinaryOp, LogicOp, UnaryOp};
+use actx_grammar::token::{Keyword, Sign, TokenKind};
 
 pub(super) fn unary_word(op: UnaryOp) -> TokenKind
     ensures { result ≡ forms.unary_word op }

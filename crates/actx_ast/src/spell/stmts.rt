@@ -2,9 +2,9 @@
 
 ghost use Rattle.std.specs.Prelude.{◌≡◌, ◌≤◌, ◌<◌, ◌+◌, ◌++◌, ◌∷◌, [], option_map, OnOk};
 ghost use Rattle.actx_ast.specs.Sizes.{consts_size, expr_size, lets_size, maybe_size, stmt_size, stmts_size};
-ghost use Rattle.actx_ast.specs.Spell as spec;
-ghost use Rattle.actx_ast.specs.Spell.{inner};
-ghost use Rattle.actx_ast.specs.Tree as node;
+ghost use Rattle.actx_grammar.specs.Spell as spec;
+ghost use Rattle.actx_grammar.specs.Spell.{inner};
+ghost use Rattle.actx_grammar.specs.Tree as node;
 ghost use Rattle.actx_ast.specs.Unspelled.{rest_of, weigh};
 ghost use Rattle.actx_ast.specs.View.{consts_view, expr_view, lets_view, maybe_expr, stmt_view, stmts_view};
 
@@ -13,7 +13,7 @@ use super::calls::{block, function};
 use super::lists::{list_consts, list_lets};
 use super::loops::{do_while, for_await, for_loop, for_of, headed_body, if_else};
 use super::{Work, keyword, push, sign};
-use crate::token::{Keyword, Sign, TokenKind};
+use actx_grammar::token::{Keyword, Sign, TokenKind};
 use crate::tree::{ConstItem, Expr, LetItem, Stmt};
 use actx_data::NoMemory;
 use std::alloc::Global;

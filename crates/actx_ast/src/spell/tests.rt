@@ -2,7 +2,7 @@
 
 use super::spell;
 use crate::tests::{nest, nest_stmt};
-use crate::token::TokenKind;
+use actx_grammar::token::TokenKind;
 use crate::tree::{Expr, Program, Stmt};
 use actx_data::NoMemory;
 use std::alloc::Global;

@@ -6,7 +6,7 @@ mod functions;
 mod stmts;
 
 use super::{emit, text_of};
-use actx_ast::name::Name;
+use actx_grammar::name::Name;
 use actx_ast::tree::{Expr, Program, Stmt};
 use actx_data::{NoMemory, Units};
 use std::alloc::Global;

@@ -2,7 +2,7 @@
 
 use super::super::cases::spelled;
 use super::*;
-use actx_ast::token::TokenKind;
+use actx_grammar::token::TokenKind;
 use std::test::Fail;
 
 /// A letter for each token: n for a name, k for a reserved word, d for a number, t for a text and s for a sign; and a bar

@@ -1,10 +1,10 @@
 //! Behind an operand, as behind the `1` of `const a = 1 ;`.
 
 ghost use Rattle.std.specs.Prelude.{◌≡◌, ◌∷◌, IfOk, List, ℕ, suc};
-ghost use Rattle.actx_ast.specs.Forms.{level_of};
-ghost use Rattle.actx_ast.specs.ParserOperands.{at_have, at_logic, at_member, at_operator, binary, choice, logic, mixes};
-ghost use Rattle.actx_ast.specs.ParserState.{Frame as Held, fits, in_logic, logic_level, settle};
-ghost use Rattle.actx_ast.specs.Tree.{Expr as Tree};
+ghost use Rattle.actx_grammar.specs.Forms.{level_of};
+ghost use Rattle.actx_grammar.specs.ParserOperands.{at_have, at_logic, at_member, at_operator, binary, choice, logic, mixes};
+ghost use Rattle.actx_grammar.specs.ParserState.{Frame as Held, fits, in_logic, logic_level, settle};
+ghost use Rattle.actx_grammar.specs.Tree.{Expr as Tree};
 ghost use Rattle.actx_ast.specs.View.{expr_view, key_view};
 ghost use Rattle.actx_parse.specs.ParserView.{bounds, move_of, settled_of, stack_view};
 
@@ -16,8 +16,8 @@ use super::nodes::member;
 use super::settle::settle;
 use super::stack::Stack;
 use super::state::{Frame, Mode, Operand, Step};
-use actx_ast::operators::{BinaryOp, LogicOp};
-use actx_ast::token::{Sign, TokenKind};
+use actx_grammar::operators::{BinaryOp, LogicOp};
+use actx_grammar::token::{Sign, TokenKind};
 use actx_ast::tree::{Expr, Key};
 use actx_data::NoMemory;
 use std::alloc::Global;

@@ -1,10 +1,10 @@
 //! Lists of statements that end, as the body of a function.
 
 ghost use Rattle.std.specs.Prelude.{◌≡◌, ◌∷◌, IfOk, List, Some, None, map, option_map};
-ghost use Rattle.actx_ast.specs.Parser.{close_list, end_body, end_list, next_clause};
-ghost use Rattle.actx_ast.specs.ParserState.{Frame as Held, arrow_head, clause_of, function_head, in_list};
-ghost use Rattle.actx_ast.specs.Grammar.{with_property};
-ghost use Rattle.actx_ast.specs.Tree.{Function as Functional, Try, catch, code, last};
+ghost use Rattle.actx_grammar.specs.Parser.{close_list, end_body, end_list, next_clause};
+ghost use Rattle.actx_grammar.specs.ParserState.{Frame as Held, arrow_head, clause_of, function_head, in_list};
+ghost use Rattle.actx_grammar.specs.Grammar.{with_property};
+ghost use Rattle.actx_grammar.specs.Tree.{Function as Functional, Try, catch, code, last};
 ghost use Rattle.actx_ast.specs.View.{clauses_view, expr_view, last_of, prop_key_view, properties_view, stmt_view, stmts_view};
 ghost use Rattle.actx_parse.specs.ParserView.{catch_view, frame_view, head_view, move_of, owner_view, role_view, stack_view};
 
@@ -13,8 +13,8 @@ use super::moves::{ended, have};
 use super::nodes::{code, function};
 use super::stack::Stack;
 use super::state::{Frame, Head, ListOwner, Mode, Operand, Role, Step};
-use actx_ast::name::Name;
-use actx_ast::operators::FunctionKind;
+use actx_grammar::name::Name;
+use actx_grammar::operators::FunctionKind;
 use actx_ast::tree::{Catcher, Clause, Expr, PropKey, Property, Stmt};
 use actx_data::NoMemory;
 use std::alloc::Global;

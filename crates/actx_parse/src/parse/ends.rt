@@ -1,10 +1,10 @@
 //! Signs that end an expression, as the semicolon of `return a ;`.
 
 ghost use Rattle.std.specs.Prelude.{◌≡◌, ◌∷◌, IfOk, List, suc};
-ghost use Rattle.actx_ast.specs.Grammar.{count, with_last};
-ghost use Rattle.actx_ast.specs.ParserOperands.{after_computed, at_whole, close_brace, close_bracket, close_paren, colon, comma, end_consts, end_lets, semicolon, suits};
-ghost use Rattle.actx_ast.specs.ParserState.{Frame as Held, go_if, have, settled};
-ghost use Rattle.actx_ast.specs.Tree.{Built, Call};
+ghost use Rattle.actx_grammar.specs.Grammar.{count, with_last};
+ghost use Rattle.actx_grammar.specs.ParserOperands.{after_computed, at_whole, close_brace, close_bracket, close_paren, colon, comma, end_consts, end_lets, semicolon, suits};
+ghost use Rattle.actx_grammar.specs.ParserState.{Frame as Held, go_if, have, settled};
+ghost use Rattle.actx_grammar.specs.Tree.{Built, Call};
 ghost use Rattle.actx_ast.specs.View.{consts_view, expr_view, exprs_view, lets_view, properties_view};
 ghost use Rattle.actx_parse.specs.ParserView.{frame_view, items_of_view, move_of, settled_of, stack_view};
 
@@ -15,8 +15,8 @@ use super::operand::close_form;
 use super::settle::settle;
 use super::stack::Stack;
 use super::state::{Frame, ItemsOf, Mode, Operand, Step};
-use actx_ast::operators::{Form, FunctionKind};
-use actx_ast::token::{Sign, TokenKind};
+use actx_grammar::operators::{Form, FunctionKind};
+use actx_grammar::token::{Sign, TokenKind};
 use actx_ast::tree::{ConstItem, Expr, ForInit, Key, LetItem, PropKey, Property, Stmt};
 use actx_data::NoMemory;
 use std::alloc::Global;

@@ -1,13 +1,13 @@
 //! Built-in forms that are spelled by their words, as `console.log` and `new Error`.
 
 ghost use Rattle.std.specs.Prelude.{◌≡◌, ◌∷◌, ◌&&◌, ◌||◌, [], IfOk, length, nat_eq, suc};
-ghost use Rattle.actx_ast.specs.Forms.{form_words};
-ghost use Rattle.actx_ast.specs.declared.token.Keyword.TheVariants.{New};
-ghost use Rattle.actx_ast.specs.declared.token.Sign.TheVariants.{Dot};
-ghost use Rattle.actx_ast.specs.declared.token.TokenKind.TheVariants as kind;
-ghost use Rattle.actx_ast.specs.ParserFunctions.{at_words, open_form};
-ghost use Rattle.actx_ast.specs.ParserOperands.{begins_with, form_with, forms_of, goes_on, least_parts, most_parts, same_token, suits, words_go};
-ghost use Rattle.actx_ast.specs.ParserState.{fits};
+ghost use Rattle.actx_grammar.specs.Forms.{form_words};
+ghost use Rattle.actx_grammar.specs.declared.token.Keyword.TheVariants.{New};
+ghost use Rattle.actx_grammar.specs.declared.token.Sign.TheVariants.{Dot};
+ghost use Rattle.actx_grammar.specs.declared.token.TokenKind.TheVariants as kind;
+ghost use Rattle.actx_grammar.specs.ParserFunctions.{at_words, open_form};
+ghost use Rattle.actx_grammar.specs.ParserOperands.{begins_with, form_with, forms_of, goes_on, least_parts, most_parts, same_token, suits, words_go};
+ghost use Rattle.actx_grammar.specs.ParserState.{fits};
 ghost use Rattle.actx_parse.specs.ParserView.{bounds, is_word_at, move_of, stack_view};
 
 use super::key::copy_token;
@@ -16,9 +16,9 @@ use super::moves::{go_if, need_in};
 use super::stack::Stack;
 use super::state::{Frame, Mode, Step};
 use super::word::is_word;
-use actx_ast::operators::Form;
-use actx_ast::side::Side;
-use actx_ast::token::{Keyword, Sign, TokenKind};
+use actx_grammar::operators::Form;
+use actx_grammar::side::Side;
+use actx_grammar::token::{Keyword, Sign, TokenKind};
 use actx_data::{ErrorName, NoMemory};
 use std::alloc::Global;
 

@@ -1,8 +1,8 @@
 //! Functions that begin, as `function * g`, `async ( a )` and `yield`.
 
 ghost use Rattle.std.specs.Prelude.{◌≡◌, ◌∷◌, ◌&&◌, if◌then◌else◌, IfOk, List, true, false};
-ghost use Rattle.actx_ast.specs.ParserFunctions.{at_async, at_async_start, at_function, at_function_name, at_yield, begins_operand, nameless, yield_operand};
-ghost use Rattle.actx_ast.specs.ParserState.{Frame as Held, fits, here, in_value, refuse};
+ghost use Rattle.actx_grammar.specs.ParserFunctions.{at_async, at_async_start, at_function, at_function_name, at_yield, begins_operand, nameless, yield_operand};
+ghost use Rattle.actx_grammar.specs.ParserState.{Frame as Held, fits, here, in_value, refuse};
 ghost use Rattle.actx_parse.specs.ParserView.{bounds, move_of, role_view, stack_view};
 
 use super::ends::at_whole;
@@ -13,8 +13,8 @@ use super::operand::need_on;
 use super::stack::Stack;
 use super::state::{Frame, Head, Mode, Operand, Role, Step};
 use super::word::is_binding;
-use actx_ast::operators::FunctionKind;
-use actx_ast::token::{Keyword, Sign, TokenKind};
+use actx_grammar::operators::FunctionKind;
+use actx_grammar::token::{Keyword, Sign, TokenKind};
 use actx_ast::tree::Expr;
 use actx_data::{NoMemory, Twin};
 use std::alloc::Global;

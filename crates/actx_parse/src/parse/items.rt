@@ -1,10 +1,10 @@
 //! The items of `let` and `const`, as the `a = 1` of `let a = 1 , b ;`.
 
 ghost use Rattle.std.specs.Prelude.{◌≡◌, IfOk, List};
-ghost use Rattle.actx_ast.specs.Parser.{at_const_behind, at_const_name, at_let_behind, at_let_name, at_of, const_of, let_of};
-ghost use Rattle.actx_ast.specs.ParserState.{Frame as Held, of_for};
-ghost use Rattle.actx_ast.specs.Grammar.{with_let};
-ghost use Rattle.actx_ast.specs.Tree.{no_expr};
+ghost use Rattle.actx_grammar.specs.Parser.{at_const_behind, at_const_name, at_let_behind, at_let_name, at_of, const_of, let_of};
+ghost use Rattle.actx_grammar.specs.ParserState.{Frame as Held, of_for};
+ghost use Rattle.actx_grammar.specs.Grammar.{with_let};
+ghost use Rattle.actx_grammar.specs.Tree.{no_expr};
 ghost use Rattle.actx_ast.specs.View.{consts_view, lets_view};
 ghost use Rattle.actx_parse.specs.ParserView.{bounds, items_of_view, move_of, stack_view};
 
@@ -15,9 +15,9 @@ use super::moves::{go_if, need_if, need_in};
 use super::stack::Stack;
 use super::state::{Frame, ItemsOf, Mode, Step};
 use super::word::{is_binding, is_word};
-use actx_ast::name::Name;
-use actx_ast::side::Side;
-use actx_ast::token::{Sign, TokenKind};
+use actx_grammar::name::Name;
+use actx_grammar::side::Side;
+use actx_grammar::token::{Sign, TokenKind};
 use actx_ast::tree::{ConstItem, LetItem};
 use actx_data::{NoMemory, Twin};
 use std::alloc::Global;

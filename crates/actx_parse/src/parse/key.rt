@@ -1,12 +1,12 @@
 //! Words as keys and names, as `if` in `{ if : 1 }` and `a.if`, and copies of tokens.
 
 ghost use Rattle.std.specs.Prelude.{◌≡◌, ◌++◌, IfOk, OnOk};
-ghost use Rattle.actx_ast.specs.Names.{word_of};
-ghost use Rattle.actx_ast.specs.Words.{keyword_text, units_of, word_units};
+ghost use Rattle.actx_grammar.specs.Names.{word_of};
+ghost use Rattle.actx_grammar.specs.Words.{keyword_text, units_of, word_units};
 
-use actx_ast::name::Name;
-use actx_ast::token::{Keyword, TokenKind};
-use actx_ast::words;
+use actx_grammar::name::Name;
+use actx_grammar::token::{Keyword, TokenKind};
+use actx_grammar::words;
 use actx_data::{NoMemory, Twin, Units};
 use std::alloc::Global;
 

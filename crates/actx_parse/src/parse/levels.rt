@@ -1,11 +1,11 @@
 //! How tightly operators bind, as `*` binds tighter than `+`.
 
 ghost use Rattle.std.specs.Prelude.{◌≡◌};
-ghost use Rattle.actx_ast.specs.Forms.{level_of};
-ghost use Rattle.actx_ast.specs.ParserOperands.{tighter};
-ghost use Rattle.actx_ast.specs.ParserState.{logic_level};
+ghost use Rattle.actx_grammar.specs.Forms.{level_of};
+ghost use Rattle.actx_grammar.specs.ParserOperands.{tighter};
+ghost use Rattle.actx_grammar.specs.ParserState.{logic_level};
 
-use actx_ast::operators::{BinaryOp, LogicOp};
+use actx_grammar::operators::{BinaryOp, LogicOp};
 
 /// The level of an operator: 5 for equality, 6 for order, 7 for sums, 8 for products.
 pub fn level_of(op: BinaryOp) -> u8

@@ -1,16 +1,16 @@
 //! What a run allows, as 8 arguments of a call on the side of users.
 
 ghost use Rattle.std.specs.Prelude.{◌≡◌, suc, IfOk};
-ghost use Rattle.actx_ast.specs.Grammar.{deepest, most};
-ghost use Rattle.actx_ast.specs.Parser.{limits, unlisted, unlimited};
-ghost use Rattle.actx_ast.specs.ParserOperands.{begins_statement, fits_below, has_room, is_source, takes_whole};
-ghost use Rattle.actx_ast.specs.ParserState.{at_most, fits, takes_more};
+ghost use Rattle.actx_grammar.specs.Grammar.{deepest, most};
+ghost use Rattle.actx_grammar.specs.Parser.{limits, unlisted, unlimited};
+ghost use Rattle.actx_grammar.specs.ParserOperands.{begins_statement, fits_below, has_room, is_source, takes_whole};
+ghost use Rattle.actx_grammar.specs.ParserState.{at_most, fits, takes_more};
 ghost use Rattle.actx_parse.specs.ParserView.{bounds, limits_view, stack_view};
 
 use super::forms::most_parts;
 use super::stack::Stack;
 use super::state::Frame;
-use actx_ast::side::Side;
+use actx_grammar::side::Side;
 use actx_data::NoMemory;
 
 /// The greatest depth, and how many parameters or arguments a list takes; none where they are put aside.

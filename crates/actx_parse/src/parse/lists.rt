@@ -1,12 +1,12 @@
 //! Lists that grow at their end, as the arguments of a call.
 
 ghost use Rattle.std.specs.Prelude.{◌≡◌, IfOk};
-ghost use Rattle.actx_ast.specs.Grammar.{count, with_last, with_let, with_const, with_property};
-ghost use Rattle.actx_ast.specs.Parser.{with_stmt, with_clause};
+ghost use Rattle.actx_grammar.specs.Grammar.{count, with_last, with_let, with_const, with_property};
+ghost use Rattle.actx_grammar.specs.Parser.{with_stmt, with_clause};
 ghost use Rattle.actx_ast.specs.View.{expr_view, exprs_view, lets_view, let_view, consts_view, const_view, properties_view, property_view, prop_key_view, stmt_view, stmts_view, clauses_view, clause_view};
 ghost use Rattle.actx_parse.specs.ParserView.{maybe_expr_view};
 
-use actx_ast::name::Name;
+use actx_grammar::name::Name;
 use actx_ast::tree::{Clause, ConstItem, Expr, LetItem, PropKey, Property, Stmt};
 use actx_data::NoMemory;
 

@@ -1,9 +1,9 @@
 //! Heads of statements, as the `( a ; b ; c )` of a `for`.
 
 ghost use Rattle.std.specs.Prelude.{◌≡◌, IfOk, List};
-ghost use Rattle.actx_ast.specs.Parser.{at_brace, at_do_end, at_for, at_for_test, at_for_update, at_open, at_paren};
-ghost use Rattle.actx_ast.specs.ParserState.{Frame as Held};
-ghost use Rattle.actx_ast.specs.Tree.{DoWhile};
+ghost use Rattle.actx_grammar.specs.Parser.{at_brace, at_do_end, at_for, at_for_test, at_for_update, at_open, at_paren};
+ghost use Rattle.actx_grammar.specs.ParserState.{Frame as Held};
+ghost use Rattle.actx_grammar.specs.Tree.{DoWhile};
 ghost use Rattle.actx_ast.specs.View.{expr_view, init_view, stmt_view};
 ghost use Rattle.actx_parse.specs.ParserView.{bounds, frame_view, maybe_expr_view, mode_view, move_of, owner_view, stack_view};
 
@@ -12,7 +12,7 @@ use super::moves::{body_in, ended, need_in, open_list};
 use super::operand::need_on;
 use super::stack::Stack;
 use super::state::{Frame, ItemsOf, ListOwner, Mode, Step};
-use actx_ast::token::{Keyword, Sign, TokenKind};
+use actx_grammar::token::{Keyword, Sign, TokenKind};
 use actx_ast::tree::{Expr, ForInit, Stmt};
 use actx_data::NoMemory;
 use std::alloc::Global;

@@ -1,8 +1,8 @@
 //! The parser's loop, a token at a time.
 
 ghost use Rattle.std.specs.Prelude.{◌≡◌, IfOk, option_map};
-ghost use Rattle.actx_ast.specs.Parser.{finish, finish_standing, move, settle_stmt};
-ghost use Rattle.actx_ast.specs.ParserState.{start};
+ghost use Rattle.actx_grammar.specs.Parser.{finish, finish_standing, move, settle_stmt};
+ghost use Rattle.actx_grammar.specs.ParserState.{start};
 ghost use Rattle.actx_ast.specs.View.{program_view, stmt_view, stmts_view};
 ghost use Rattle.actx_parse.specs.ParserView.{alone, bounds, frame_view, listed, mode_view, move_of, stack_view, standing_of};
 ghost use Rattle.actx_lex.specs.Lexemes.{lexemes};
@@ -33,7 +33,7 @@ use super::tries::{
     at_case, at_case_colon, at_catch, at_catch_close, at_catch_name, at_catch_open, at_clause,
     at_finally, at_switch, try_alone,
 };
-use actx_ast::token::TokenKind;
+use actx_grammar::token::TokenKind;
 use actx_ast::tree::{Program, Stmt};
 use actx_data::NoMemory;
 use actx_lex::token::Token;

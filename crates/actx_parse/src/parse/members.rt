@@ -1,10 +1,10 @@
 //! Words behind a dot, as `a.b` and `f.call( 1 )`.
 
 ghost use Rattle.std.specs.Prelude.{◌≡◌, IfOk, List, Some};
-ghost use Rattle.actx_ast.specs.Names.{word_of};
-ghost use Rattle.actx_ast.specs.ParserFunctions.{at_call, member_word};
-ghost use Rattle.actx_ast.specs.ParserState.{Frame as Held};
-ghost use Rattle.actx_ast.specs.Tree.{also, none};
+ghost use Rattle.actx_grammar.specs.Names.{word_of};
+ghost use Rattle.actx_grammar.specs.ParserFunctions.{at_call, member_word};
+ghost use Rattle.actx_grammar.specs.ParserState.{Frame as Held};
+ghost use Rattle.actx_grammar.specs.Tree.{also, none};
 ghost use Rattle.actx_ast.specs.View.{expr_view, exprs_view};
 ghost use Rattle.actx_parse.specs.ParserView.{move_of, stack_view};
 
@@ -14,10 +14,10 @@ use super::moves::need_in;
 use super::stack::Stack;
 use super::state::{Frame, Mode, Operand, Step};
 use super::word::is_word;
-use actx_ast::name::Name;
-use actx_ast::operators::Form;
-use actx_ast::side::Side;
-use actx_ast::token::{Sign, TokenKind};
+use actx_grammar::name::Name;
+use actx_grammar::operators::Form;
+use actx_grammar::side::Side;
+use actx_grammar::token::{Sign, TokenKind};
 use actx_ast::tree::{Expr, Key};
 use actx_data::NoMemory;
 use std::alloc::Global;

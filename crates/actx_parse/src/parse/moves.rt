@@ -1,9 +1,9 @@
 //! Moves that many tokens make, as the one to an operand on one more frame.
 
 ghost use Rattle.std.specs.Prelude.{◌≡◌, ◌∷◌, IfOk, List};
-ghost use Rattle.actx_ast.specs.ParserFunctions.{open_list};
-ghost use Rattle.actx_ast.specs.ParserOperands.{ended};
-ghost use Rattle.actx_ast.specs.ParserState.{Frame as Held, body_start, go, go_if, have, need};
+ghost use Rattle.actx_grammar.specs.ParserFunctions.{open_list};
+ghost use Rattle.actx_grammar.specs.ParserOperands.{ended};
+ghost use Rattle.actx_grammar.specs.ParserState.{Frame as Held, body_start, go, go_if, have, need};
 ghost use Rattle.actx_ast.specs.View.{expr_view, stmt_view};
 ghost use Rattle.actx_parse.specs.ParserView.{frame_view, mode_view, move_of, owner_view, stack_view};
 

@@ -1,9 +1,9 @@
 //! Names and what may follow them, as the `a` of `( a ) => a`, which is first read as an expression.
 
 ghost use Rattle.std.specs.Prelude.{◌≡◌, ◌∷◌, [], if◌then◌else◌, IfOk, true, false};
-ghost use Rattle.actx_ast.specs.ParserFunctions.{assign, at_closed, at_first, at_name, at_opened};
-ghost use Rattle.actx_ast.specs.ParserOperands.{at_have, named};
-ghost use Rattle.actx_ast.specs.ParserState.{fits, here, in_paren, refuse};
+ghost use Rattle.actx_grammar.specs.ParserFunctions.{assign, at_closed, at_first, at_name, at_opened};
+ghost use Rattle.actx_grammar.specs.ParserOperands.{at_have, named};
+ghost use Rattle.actx_grammar.specs.ParserState.{fits, here, in_paren, refuse};
 ghost use Rattle.actx_parse.specs.ParserView.{bounds, frame_view, move_of, stack_view};
 
 use super::behind::at_have;
@@ -13,9 +13,9 @@ use super::operand::need_on;
 use super::stack::Stack;
 use super::state::{Frame, Head, Mode, Operand, Step};
 use super::word::{is_binding, named};
-use actx_ast::name::Name;
-use actx_ast::operators::{BinaryOp, FunctionKind};
-use actx_ast::token::{Sign, TokenKind};
+use actx_grammar::name::Name;
+use actx_grammar::operators::{BinaryOp, FunctionKind};
+use actx_grammar::token::{Sign, TokenKind};
 use actx_ast::tree::Expr;
 use actx_data::{NoMemory, Twin};
 use std::alloc::Global;

@@ -1,12 +1,12 @@
 //! Trees of operands that end, as the sum of `1 + 2`.
 
 ghost use Rattle.std.specs.Prelude.{◌≡◌, IfOk, None, max, option_map};
-ghost use Rattle.actx_ast.specs.Tree.{Function as Functional, Await as Awaited, Binary, Call, Change, Choice, Logic, Member, Return, SetMember, SetName, Unary, Yield as Yielded, YieldAll, code, end, next, some_expr};
+ghost use Rattle.actx_grammar.specs.Tree.{Function as Functional, Await as Awaited, Binary, Call, Change, Choice, Logic, Member, Return, SetMember, SetName, Unary, Yield as Yielded, YieldAll, code, end, next, some_expr};
 ghost use Rattle.actx_ast.specs.View.{expr_view, exprs_view, function_view, key_view, maybe_expr, stmt_view, stmts_view};
 
 use super::state::Operand;
-use actx_ast::name::Name;
-use actx_ast::operators::{BinaryOp, FunctionKind, LogicOp, UnaryOp};
+use actx_grammar::name::Name;
+use actx_grammar::operators::{BinaryOp, FunctionKind, LogicOp, UnaryOp};
 use actx_ast::tree::{Expr, Function, Key, Stmt};
 use actx_data::NoMemory;
 use std::alloc::Global;

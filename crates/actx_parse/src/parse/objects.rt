@@ -1,10 +1,10 @@
 //! Object literals, as `{ a : 1 , b }`.
 
 ghost use Rattle.std.specs.Prelude.{◌≡◌, [], if◌then◌else◌, codes, IfOk, List, None};
-ghost use Rattle.actx_ast.specs.ParserFunctions.{alone, at_fixed, at_key, at_key_word, at_method, at_method_key, behind_async, behind_key, behind_key_name, behind_property};
-ghost use Rattle.actx_ast.specs.ParserState.{Frame as Held, function_head, go, method, param_next, refuse};
-ghost use Rattle.actx_ast.specs.Tree.{Fixed};
-ghost use Rattle.actx_ast.specs.Words.{keyword_text, word_units};
+ghost use Rattle.actx_grammar.specs.ParserFunctions.{alone, at_fixed, at_key, at_key_word, at_method, at_method_key, behind_async, behind_key, behind_key_name, behind_property};
+ghost use Rattle.actx_grammar.specs.ParserState.{Frame as Held, function_head, go, method, param_next, refuse};
+ghost use Rattle.actx_grammar.specs.Tree.{Fixed};
+ghost use Rattle.actx_grammar.specs.Words.{keyword_text, word_units};
 ghost use Rattle.actx_ast.specs.View.{prop_key_view, properties_view};
 ghost use Rattle.actx_parse.specs.ParserView.{bounds, move_of, stack_view};
 
@@ -15,10 +15,10 @@ use super::moves::{go_if, have, need_if, need_in};
 use super::stack::Stack;
 use super::state::{Frame, Head, Mode, Operand, Role, Step};
 use super::word::{is_binding, named};
-use actx_ast::name::Name;
-use actx_ast::operators::FunctionKind;
-use actx_ast::side::Side;
-use actx_ast::token::{Keyword, Sign, TokenKind};
+use actx_grammar::name::Name;
+use actx_grammar::operators::FunctionKind;
+use actx_grammar::side::Side;
+use actx_grammar::token::{Keyword, Sign, TokenKind};
 use actx_ast::tree::{Expr, PropKey, Property};
 use actx_data::{NoMemory, Twin, Units};
 use std::alloc::Global;

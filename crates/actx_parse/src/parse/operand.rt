@@ -1,10 +1,10 @@
 //! Where an operand is wanted, as behind `const a =`.
 
 ghost use Rattle.std.specs.Prelude.{◌≡◌, ◌∷◌, IfOk, List};
-ghost use Rattle.actx_ast.specs.Grammar.{count};
-ghost use Rattle.actx_ast.specs.ParserOperands.{at_bump_name, at_need, begin_operand, close_arguments, key_operand, operand, prefix, suits};
-ghost use Rattle.actx_ast.specs.ParserState.{Frame as Held, go_if, have};
-ghost use Rattle.actx_ast.specs.Tree.{Built};
+ghost use Rattle.actx_grammar.specs.Grammar.{count};
+ghost use Rattle.actx_grammar.specs.ParserOperands.{at_bump_name, at_need, begin_operand, close_arguments, key_operand, operand, prefix, suits};
+ghost use Rattle.actx_grammar.specs.ParserState.{Frame as Held, go_if, have};
+ghost use Rattle.actx_grammar.specs.Tree.{Built};
 ghost use Rattle.actx_ast.specs.View.{expr_view, exprs_view};
 ghost use Rattle.actx_parse.specs.ParserView.{bounds, frame_view, move_of, stack_view};
 
@@ -16,9 +16,9 @@ use super::nodes::call;
 use super::stack::Stack;
 use super::state::{Frame, Mode, Operand, Role, Step};
 use super::word::{is_binding, is_built_in};
-use actx_ast::name::Name;
-use actx_ast::operators::{Form, UnaryOp};
-use actx_ast::token::{Keyword, Sign, TokenKind};
+use actx_grammar::name::Name;
+use actx_grammar::operators::{Form, UnaryOp};
+use actx_grammar::token::{Keyword, Sign, TokenKind};
 use actx_ast::tree::Expr;
 use actx_data::{NoMemory, Twin, Units};
 use std::alloc::Global;

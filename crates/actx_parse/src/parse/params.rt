@@ -1,8 +1,8 @@
 //! Parameters and what stands before a function's body, as the sign `=>` of an arrow.
 
 ghost use Rattle.std.specs.Prelude.{◌≡◌, IfOk, List, true, false};
-ghost use Rattle.actx_ast.specs.ParserFunctions.{at_arrow_body, at_arrow_sign, at_body_open, at_param, at_params_open, behind_param, close_params, function_depth};
-ghost use Rattle.actx_ast.specs.ParserState.{Frame as Held, function_head};
+ghost use Rattle.actx_grammar.specs.ParserFunctions.{at_arrow_body, at_arrow_sign, at_body_open, at_param, at_params_open, behind_param, close_params, function_depth};
+ghost use Rattle.actx_grammar.specs.ParserState.{Frame as Held, function_head};
 ghost use Rattle.actx_parse.specs.ParserView.{bounds, head_view, move_of, role_view, stack_view};
 
 use super::limits::{Rules, deeper, takes_more};
@@ -11,9 +11,9 @@ use super::operand::need_on;
 use super::stack::Stack;
 use super::state::{Frame, Head, ListOwner, Mode, Role, Step};
 use super::word::is_binding;
-use actx_ast::name::Name;
-use actx_ast::operators::FunctionKind;
-use actx_ast::token::{Sign, TokenKind};
+use actx_grammar::name::Name;
+use actx_grammar::operators::FunctionKind;
+use actx_grammar::token::{Sign, TokenKind};
 use actx_data::{NoMemory, Twin};
 use std::alloc::Global;
 use std::cmp::max;

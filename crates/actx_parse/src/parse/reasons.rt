@@ -1,7 +1,7 @@
 //! Why a token is refused: runs within looser limits on the tokens up to it tell.
 
 ghost use Rattle.std.specs.Prelude.{◌≡◌, IfOk};
-ghost use Rattle.actx_ast.specs.Parser.{limits};
+ghost use Rattle.actx_grammar.specs.Parser.{limits};
 ghost use Rattle.actx_parse.specs.Answers.{IsTold};
 ghost use Rattle.actx_parse.specs.ParserView.{bounds};
 ghost use Rattle.actx_lex.specs.Lexemes.{lexemes};
@@ -10,7 +10,7 @@ ghost use Rattle.actx_parse.specs.Scan.{is_stopped, scan, stopped};
 use super::ParseFault;
 use super::limits::{Rules, unlimited, unlisted};
 use super::machine::{Outcome, scan};
-use actx_ast::side::Side;
+use actx_grammar::side::Side;
 use actx_data::NoMemory;
 use actx_lex::token::Token;
 use std::alloc::Global;

@@ -1,7 +1,7 @@
 //! What an operand ends, as the `2` of `1 * 2 + 3` ends the product.
 
 ghost use Rattle.std.specs.Prelude.{◌≡◌, ◌∷◌, IfOk, List};
-ghost use Rattle.actx_ast.specs.ParserState.{Frame as Held, settle};
+ghost use Rattle.actx_grammar.specs.ParserState.{Frame as Held, settle};
 ghost use Rattle.actx_ast.specs.View.{expr_view};
 ghost use Rattle.actx_parse.specs.ParserView.{bound_of, frame_view, settled_of, stack_view};
 

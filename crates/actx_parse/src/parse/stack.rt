@@ -1,13 +1,13 @@
 //! The stack of all that is open, as the call and the `const` in `const a = f ( 1`.
 
 ghost use Rattle.std.specs.Prelude.{◌≡◌, ◌∷◌, [], ℕ, List, MatchOption, OnOk};
-ghost use Rattle.actx_ast.specs.ParserState.{frame_levels, function_head, here, in_list, role_levels};
-ghost use Rattle.actx_ast.specs.Tree.{Stmts};
+ghost use Rattle.actx_grammar.specs.ParserState.{frame_levels, function_head, here, in_list, role_levels};
+ghost use Rattle.actx_grammar.specs.Tree.{Stmts};
 ghost use Rattle.actx_parse.specs.ParserView.{frame_view, head_view, owner_view, role_view, stack_view};
 
 use super::state::{Frame, Head, ListOwner, Role};
-use actx_ast::name::Name;
-use actx_ast::operators::FunctionKind;
+use actx_grammar::name::Name;
+use actx_grammar::operators::FunctionKind;
 use actx_data::NoMemory;
 use std::alloc::Global;
 use std::marker::Model;
@@ -39,7 +39,7 @@ impl Model for Stack {
 
     ghost coded = { Prim.hlevel (codes, key.the_row.coded, prop_key.the_row.coded, init.the_row.coded, catcher.the_row.coded, expr.the_row.coded, stmt.the_row.coded, const_item.the_row.coded, let_item.the_row.coded, clause.the_row.coded, property.the_row.coded) };
 
-    ghost use Rattle.actx_ast.specs.ParserState as machine;
+    ghost use Rattle.actx_grammar.specs.ParserState as machine;
     ghost use Rattle.actx_parse.specs.ParserView.{onto, stack_view};
 
     ghost view = { λ s. onto s.frames.items [] };

@@ -1,9 +1,9 @@
 //! Behind a statement, as behind the `b ;` of `if (a) b ; else c ;`.
 
 ghost use Rattle.std.specs.Prelude.{◌≡◌, ◌∷◌, IfOk, List, max, option_map};
-ghost use Rattle.actx_ast.specs.Parser.{behind_standing, behind_stmt, settle_stmt, standing, to_else};
-ghost use Rattle.actx_ast.specs.ParserState.{Frame as Held, do_of};
-ghost use Rattle.actx_ast.specs.Tree.{For as Looping, ForOf as Iterating, If as Testing, While as Repeating, no_stmt, some_stmt};
+ghost use Rattle.actx_grammar.specs.Parser.{behind_standing, behind_stmt, settle_stmt, standing, to_else};
+ghost use Rattle.actx_grammar.specs.ParserState.{Frame as Held, do_of};
+ghost use Rattle.actx_grammar.specs.Tree.{For as Looping, ForOf as Iterating, If as Testing, While as Repeating, no_stmt, some_stmt};
 ghost use Rattle.actx_ast.specs.View.{expr_view, init_view, maybe_stmt, stmt_view};
 ghost use Rattle.actx_parse.specs.ParserView.{bounds, branch_of, frame_view, joined_of, maybe_expr_view, move_of, stack_view, standing_of};
 
@@ -12,8 +12,8 @@ use super::lists::with_stmt;
 use super::stack::Stack;
 use super::state::{Frame, Mode, Operand, Step};
 use super::statements::at_start;
-use actx_ast::name::Name;
-use actx_ast::token::{Keyword, TokenKind};
+use actx_grammar::name::Name;
+use actx_grammar::token::{Keyword, TokenKind};
 use actx_ast::tree::{Expr, ForInit, Stmt};
 use actx_data::NoMemory;
 use std::alloc::Global;

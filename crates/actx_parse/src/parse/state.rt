@@ -1,8 +1,8 @@
 //! What the parser holds between two tokens, as a `const` whose items are read so far.
 
-use actx_ast::name::Name;
-use actx_ast::operators::{BinaryOp, Form, FunctionKind, LogicOp, UnaryOp};
-use actx_ast::token::TokenKind;
+use actx_grammar::name::Name;
+use actx_grammar::operators::{BinaryOp, Form, FunctionKind, LogicOp, UnaryOp};
+use actx_grammar::token::TokenKind;
 use actx_ast::tree::{
     Catcher, Clause, ConstItem, Expr, ForInit, Key, LetItem, PropKey, Property, Stmt,
 };

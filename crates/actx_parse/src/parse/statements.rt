@@ -1,9 +1,9 @@
 //! Where a statement begins, as `if` does in `if (a) b;`.
 
 ghost use Rattle.std.specs.Prelude.{◌≡◌, ◌∷◌, if◌then◌else◌, IfOk};
-ghost use Rattle.actx_ast.specs.Parser.{at_body_start, at_jump, at_return, at_start, at_statement, at_throw, list_keyword, statement_keyword, with_parts, without_parts};
-ghost use Rattle.actx_ast.specs.ParserOperands.{at_need};
-ghost use Rattle.actx_ast.specs.ParserState.{in_return, refuse};
+ghost use Rattle.actx_grammar.specs.Parser.{at_body_start, at_jump, at_return, at_start, at_statement, at_throw, list_keyword, statement_keyword, with_parts, without_parts};
+ghost use Rattle.actx_grammar.specs.ParserOperands.{at_need};
+ghost use Rattle.actx_grammar.specs.ParserState.{in_return, refuse};
 ghost use Rattle.actx_ast.specs.View.{stmt_view};
 ghost use Rattle.actx_parse.specs.ParserView.{bounds, mode_view, move_of, stack_view};
 
@@ -13,8 +13,8 @@ use super::moves::{body_in, ended, go_if, open_list};
 use super::operand::need_on;
 use super::stack::Stack;
 use super::state::{Frame, ItemsOf, ListOwner, Mode, Role, Step};
-use actx_ast::side::Side;
-use actx_ast::token::{Keyword, Sign, TokenKind};
+use actx_grammar::side::Side;
+use actx_grammar::token::{Keyword, Sign, TokenKind};
 use actx_ast::tree::Stmt;
 use actx_data::NoMemory;
 use std::alloc::Global;

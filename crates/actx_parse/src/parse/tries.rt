@@ -1,9 +1,9 @@
 //! The parts of `try` and `switch`, as the `catch ( e ) { }` behind a block.
 
 ghost use Rattle.std.specs.Prelude.{◌≡◌, IfOk, List};
-ghost use Rattle.actx_ast.specs.Parser.{at_case, at_case_colon, at_catch, at_catch_close, at_catch_name, at_catch_open, at_clause, at_finally, at_switch};
-ghost use Rattle.actx_ast.specs.ParserState.{Frame as Held};
-ghost use Rattle.actx_ast.specs.Tree.{Try, no_last};
+ghost use Rattle.actx_grammar.specs.Parser.{at_case, at_case_colon, at_catch, at_catch_close, at_catch_name, at_catch_open, at_clause, at_finally, at_switch};
+ghost use Rattle.actx_grammar.specs.ParserState.{Frame as Held};
+ghost use Rattle.actx_grammar.specs.Tree.{Try, no_last};
 ghost use Rattle.actx_ast.specs.View.{clauses_view, expr_view, stmt_view, stmts_view};
 ghost use Rattle.actx_parse.specs.ParserView.{bounds, catch_view, move_of, stack_view};
 
@@ -15,8 +15,8 @@ use super::stack::Stack;
 use super::standing::behind_stmt;
 use super::state::{ListOwner, Mode, Step};
 use super::word::is_binding;
-use actx_ast::name::Name;
-use actx_ast::token::{Keyword, Sign, TokenKind};
+use actx_grammar::name::Name;
+use actx_grammar::token::{Keyword, Sign, TokenKind};
 use actx_ast::tree::{Catcher, Clause, Expr, Stmt};
 use actx_data::{NoMemory, Twin};
 use std::alloc::Global;

@@ -1,11 +1,11 @@
 //! Names that the grammar knows, as `console`.
 
 ghost use Rattle.std.specs.Prelude.{◌≡◌, IfOk};
-ghost use Rattle.actx_ast.specs.ParserOperands.{is_binding, is_built_in, named, same_word};
+ghost use Rattle.actx_grammar.specs.ParserOperands.{is_binding, is_built_in, named, same_word};
 ghost use Rattle.actx_ast.specs.View.{expr_view};
 
-use actx_ast::name::Name;
-use actx_ast::side::Side;
+use actx_grammar::name::Name;
+use actx_grammar::side::Side;
 use actx_ast::tree::Expr;
 use actx_data::{NoMemory, Twin};
 use std::alloc::Global;

@@ -1,9 +1,9 @@
 //! Calls and built-in forms along a walk: `f ( a , b )`.
 
 ghost use Rattle.std.specs.Prelude.{◌≡◌, ◌≤◌, ◌<◌, ◌+◌, OnOk, length};
-ghost use Rattle.actx_ast.specs.Forms.{form_words};
+ghost use Rattle.actx_grammar.specs.Forms.{form_words};
 ghost use Rattle.actx_ast.specs.Sizes.{expr_size, exprs_size};
-ghost use Rattle.actx_ast.specs.Tree as node;
+ghost use Rattle.actx_grammar.specs.Tree as node;
 ghost use Rattle.actx_ast.specs.View.{expr_view, exprs_view};
 ghost use Rattle.actx_parse.specs.Walk as spec;
 ghost use Rattle.actx_parse.specs.WalkWork.{acts, weigh};
@@ -11,7 +11,7 @@ ghost use Rattle.actx_parse.specs.WalkWork.{acts, weigh};
 use super::exprs::left;
 use super::walk::Walk;
 use super::{Item, Manner, push};
-use actx_ast::operators::Form;
+use actx_grammar::operators::Form;
 use actx_ast::tree::Expr;
 use actx_data::NoMemory;
 

@@ -2,9 +2,9 @@
 
 ghost use Rattle.std.specs.Prelude.{◌≡◌, ◌≤◌, ◌<◌, ◌+◌, OnOk, length};
 ghost use Rattle.actx_ast.specs.Sizes.{expr_size, key_size, properties_size};
-ghost use Rattle.actx_ast.specs.Tree as node;
+ghost use Rattle.actx_grammar.specs.Tree as node;
 ghost use Rattle.actx_ast.specs.View.{expr_view, key_view, properties_view};
-ghost use Rattle.actx_ast.specs.declared.operators.BinaryOp.TheVariants.{Add};
+ghost use Rattle.actx_grammar.specs.declared.operators.BinaryOp.TheVariants.{Add};
 ghost use Rattle.actx_parse.specs.Walk as spec;
 ghost use Rattle.actx_parse.specs.WalkWork.{acts, weigh};
 
@@ -13,8 +13,8 @@ use super::functions::{function_expr, method};
 use super::lists::properties;
 use super::walk::Walk;
 use super::{Item, Manner, push};
-use actx_ast::operators::Form;
-use actx_ast::token::Sign;
+use actx_grammar::operators::Form;
+use actx_grammar::token::Sign;
 use actx_ast::tree::{Expr, Key, Property};
 use actx_data::NoMemory;
 

@@ -2,7 +2,7 @@
 
 ghost use Rattle.std.specs.Prelude.{◌≡◌, ◌≤◌, ◌<◌, ◌+◌, OnOk, option_map};
 ghost use Rattle.actx_ast.specs.Sizes.{code_size, expr_size, maybe_size, stmt_size, stmts_size};
-ghost use Rattle.actx_ast.specs.Tree as node;
+ghost use Rattle.actx_grammar.specs.Tree as node;
 ghost use Rattle.actx_ast.specs.View.{expr_view, function_view, maybe_expr, stmt_view, stmts_view};
 ghost use Rattle.actx_parse.specs.Walk as spec;
 ghost use Rattle.actx_parse.specs.WalkWork.{acts, weigh};
@@ -11,8 +11,8 @@ use super::exprs::expr;
 use super::stmts::braces;
 use super::walk::Walk;
 use super::{Item, push};
-use actx_ast::operators::FunctionKind;
-use actx_ast::token::Sign;
+use actx_grammar::operators::FunctionKind;
+use actx_grammar::token::Sign;
 use actx_ast::tree::{Expr, Function, Stmt};
 use actx_data::NoMemory;
 

@@ -11,8 +11,8 @@ ghost use Rattle.actx_parse.specs.WalkWork.{acts, weigh};
 use super::exprs::{bracketed, expr, key_word};
 use super::walk::Walk;
 use super::{Item, Manner, push};
-use actx_ast::operators::FunctionKind;
-use actx_ast::token::Sign;
+use actx_grammar::operators::FunctionKind;
+use actx_grammar::token::Sign;
 use actx_ast::tree::{ConstItem, Expr, LetItem, PropKey, Property};
 use actx_data::NoMemory;
 

@@ -2,7 +2,7 @@
 
 ghost use Rattle.std.specs.Prelude.{◌≡◌, ◌≤◌, ◌<◌, ◌+◌, OnOk, option_map};
 ghost use Rattle.actx_ast.specs.Sizes.{consts_size, expr_size, lets_size, maybe_size, stmt_size, stmts_size};
-ghost use Rattle.actx_ast.specs.Tree as node;
+ghost use Rattle.actx_grammar.specs.Tree as node;
 ghost use Rattle.actx_ast.specs.View.{consts_view, expr_view, lets_view, maybe_expr, stmt_view, stmts_view};
 ghost use Rattle.actx_parse.specs.Walk as spec;
 ghost use Rattle.actx_parse.specs.WalkWork.{acts, weigh};

@@ -2,7 +2,7 @@
 
 ghost use Rattle.std.specs.Prelude.{◌≡◌, ◌≤◌, ◌<◌, ◌+◌, OnOk, map, option_map};
 ghost use Rattle.actx_ast.specs.Sizes.{catch_size, clauses_size, expr_size, last_size, stmts_size};
-ghost use Rattle.actx_ast.specs.Tree as node;
+ghost use Rattle.actx_grammar.specs.Tree as node;
 ghost use Rattle.actx_ast.specs.View.{catch_of, catcher_view, clauses_view, expr_view, last_of, stmt_view, stmts_view};
 ghost use Rattle.actx_parse.specs.Walk as spec;
 ghost use Rattle.actx_parse.specs.WalkWork.{acts, weigh};
@@ -11,7 +11,7 @@ use super::exprs::expr;
 use super::stmts::braces;
 use super::walk::Walk;
 use super::{Item, push};
-use actx_ast::name::Name;
+use actx_grammar::name::Name;
 use actx_ast::tree::{Catcher, Clause, Expr, Stmt};
 use actx_data::NoMemory;
 

@@ -1,7 +1,7 @@
 //! Small trees for tests.
 
-use actx_ast::name::Name;
-use actx_ast::operators::FunctionKind;
+use actx_grammar::name::Name;
+use actx_grammar::operators::FunctionKind;
 use actx_ast::tree::{Catcher, Expr, Function, Key, LetItem, PropKey, Property, Stmt};
 use actx_data::{NoMemory, Units};
 use std::alloc::Global;

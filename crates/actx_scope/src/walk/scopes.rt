@@ -1,7 +1,7 @@
 //! Scopes: how the walk over a program enters and leaves them.
 
 ghost use Rattle.std.specs.Prelude.{◌≡◌, ◌++◌, true, IfOk, OnOk};
-ghost use Rattle.actx_ast.specs.Static as spec;
+ghost use Rattle.actx_grammar.specs.Static as spec;
 ghost use Rattle.actx_ast.specs.View.{function_view, init_view, stmts_view};
 ghost use Rattle.actx_scope.specs.Machine as m;
 ghost use Rattle.actx_scope.specs.Places.{within};
@@ -11,7 +11,7 @@ use super::state::Walk;
 use crate::count::{after, names_end};
 use crate::declared::{Declared, add, add_init, add_list, add_own, add_params};
 use crate::place::Outer;
-use actx_ast::name::Name;
+use actx_grammar::name::Name;
 use actx_ast::tree::{ForInit, Function, Stmt};
 use actx_data::NoMemory;
 use std::alloc::Global;

@@ -10,7 +10,7 @@ use crate::fault::CheckFault;
 use crate::link::Link;
 use crate::names::{is_inherited, is_proto, is_unbindable};
 use crate::place::{Place, misplaced_unless, reserved_if};
-use actx_ast::name::Name;
+use actx_grammar::name::Name;
 use actx_data::{NoMemory, Units};
 use std::alloc::Global;
 

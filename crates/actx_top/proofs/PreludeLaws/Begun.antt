@@ -1,7 +1,7 @@
 -- The store that the prelude leaves is one of those that the laws speak of, so that they are not empty.
 use Rattle.std.proofs.Common.{◌≡◌, List, [], ◌∷◌, Some, refl}
 use Rattle.actx_data.specs.declared.value.Value.TheVariants as v
-use Rattle.actx_ast.specs.declared.side.Side.TheVariants.{Plain as plain}
+use Rattle.actx_grammar.specs.declared.side.Side.TheVariants.{Plain as plain}
 use Rattle.actx_top.specs.Machine.{at, first_heap, no_store}
 use Rattle.actx_top.specs.Prelude.{prelude, name_states, name_now, name_find, name_with, name_get, name_run, name_make, name_variable}
 use Rattle.actx_top.specs.Related.{now_record, find_thing, with_thing_of, get_thing_of, run_thing_of, make_thing_of, variable_thing_of}

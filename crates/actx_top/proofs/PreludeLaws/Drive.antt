@@ -2,7 +2,7 @@
 use Rattle.std.proofs.Common.{◌≡◌, ℕ, zero, suc, ◌≤◌, List, [], ◌∷◌, ◌++◌, refl, sym, ap, ◌∙◌}
 use Rattle.actx_data.specs.declared.end.End.{End}
 use Rattle.actx_data.specs.declared.trace.TraceEvent.{TraceEvent}
-use Rattle.actx_ast.specs.declared.side.Side.TheVariants.{Plain as plain}
+use Rattle.actx_grammar.specs.declared.side.Side.TheVariants.{Plain as plain}
 use Rattle.actx_match.specs.Runs.{run}
 use Rattle.actx_match.proofs.Pairing.{append_nil}
 use Rattle.actx_top.specs.State.{Task, Frame, Store, State, Move, Goes, Writes, Stops}

@@ -6,8 +6,8 @@ use Rattle.actx_match.proofs.Pairing.{get_front, get_last, set_last, append_nil}
 use Rattle.actx_data.specs.declared.trace.TraceEvent.{TraceEvent}
 use Rattle.actx_data.specs.declared.value.Value.{Value}
 use Rattle.actx_data.specs.declared.value.Value.TheVariants as v
-use Rattle.actx_ast.specs.declared.side.Side.TheVariants.{Plain as plain}
-use Rattle.actx_ast.specs.Tree as t
+use Rattle.actx_grammar.specs.declared.side.Side.TheVariants.{Plain as plain}
+use Rattle.actx_grammar.specs.Tree as t
 use Rattle.actx_top.specs.Machine.{at, takes, step, call_thing, first, rest}
 use Rattle.actx_top.specs.Prelude.{key_mapping, run_block, run_last}
 use Rattle.actx_top.specs.Properties.{entry_at}

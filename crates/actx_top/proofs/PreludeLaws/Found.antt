@@ -11,8 +11,8 @@ use Rattle.actx_match.proofs.Pairing.{get_front, get_last}
 use Rattle.actx_data.specs.declared.trace.TraceEvent.{TraceEvent}
 use Rattle.actx_data.specs.declared.value.Value.{Value}
 use Rattle.actx_data.specs.declared.value.Value.TheVariants as v
-use Rattle.actx_ast.specs.declared.side.Side.TheVariants.{Plain as plain}
-use Rattle.actx_ast.specs.Tree as t
+use Rattle.actx_grammar.specs.declared.side.Side.TheVariants.{Plain as plain}
+use Rattle.actx_grammar.specs.Tree as t
 use Rattle.actx_top.specs.Agent.{mapped_or}
 use Rattle.actx_top.specs.Machine.{at, takes, step, call_thing}
 use Rattle.actx_top.specs.Prelude.{the_list, the_number, the_other}

@@ -7,9 +7,9 @@ use Rattle.actx_data.specs.declared.trace.TraceEvent.{TraceEvent}
 use Rattle.actx_data.specs.declared.trace.TraceEvent.TheVariants.{Get}
 use Rattle.actx_data.specs.declared.value.Value.{Value}
 use Rattle.actx_data.specs.declared.value.Value.TheVariants as v
-use Rattle.actx_ast.specs.declared.side.Side.TheVariants.{Plain as plain}
-use Rattle.actx_ast.specs.declared.operators.Form.TheVariants.{Note}
-use Rattle.actx_ast.specs.Tree as t
+use Rattle.actx_grammar.specs.declared.side.Side.TheVariants.{Plain as plain}
+use Rattle.actx_grammar.specs.declared.operators.Form.TheVariants.{Note}
+use Rattle.actx_grammar.specs.Tree as t
 use Rattle.actx_top.specs.Agent.{mapped_or}
 use Rattle.actx_top.specs.Machine.{at, takes, step, call_thing}
 use Rattle.actx_top.specs.Prelude.{the_value, the_number, three}

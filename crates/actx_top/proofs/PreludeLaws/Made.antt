@@ -7,7 +7,7 @@ use Rattle.actx_data.specs.declared.end.End.TheVariants.{Left}
 use Rattle.actx_data.specs.declared.trace.TraceEvent.{TraceEvent}
 use Rattle.actx_data.specs.declared.value.Value.{Value}
 use Rattle.actx_data.specs.declared.value.Value.TheVariants as v
-use Rattle.actx_ast.specs.declared.side.Side.TheVariants.{Plain as plain}
+use Rattle.actx_grammar.specs.declared.side.Side.TheVariants.{Plain as plain}
 use Rattle.actx_top.specs.Machine.{at, call_thing, stopped}
 use Rattle.actx_top.specs.Prelude.{the_value, the_name, the_number, the_variable, key_number, key_value}
 use Rattle.actx_top.specs.Properties.{with_entry}

@@ -8,8 +8,8 @@ use Rattle.actx_data.specs.Number.{greatest}
 use Rattle.actx_data.specs.declared.trace.TraceEvent.{TraceEvent}
 use Rattle.actx_data.specs.declared.value.Value.{Value}
 use Rattle.actx_data.specs.declared.value.Value.TheVariants as v
-use Rattle.actx_ast.specs.declared.side.Side.TheVariants.{Plain as plain}
-use Rattle.actx_ast.specs.Tree as t
+use Rattle.actx_grammar.specs.declared.side.Side.TheVariants.{Plain as plain}
+use Rattle.actx_grammar.specs.Tree as t
 use Rattle.actx_top.specs.Machine.{at, takes, step, call_thing, option_of}
 use Rattle.actx_top.specs.Operators.{Gives, Leaves, same}
 use Rattle.actx_top.specs.Prelude.{the_value, the_name, the_options, name_make, two}

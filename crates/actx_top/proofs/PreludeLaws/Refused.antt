@@ -3,7 +3,7 @@ use Rattle.std.proofs.Common.{◌≡◌, ℕ, true, List, [], ◌∷◌, ◌++�
 use Rattle.std.specs.Prelude.{slice_get, codes}
 use Rattle.actx_data.specs.declared.value.Value.{Value}
 use Rattle.actx_data.specs.declared.value.Value.TheVariants as v
-use Rattle.actx_ast.specs.declared.side.Side.TheVariants.{Plain as plain}
+use Rattle.actx_grammar.specs.declared.side.Side.TheVariants.{Plain as plain}
 use Rattle.actx_match.proofs.Pairing.{get_front, get_last, set_last}
 use Rattle.actx_top.specs.Prelude.{the_value, the_f, the_arguments, the_state, the_old, the_number}
 use Rattle.actx_top.specs.Related.{get_thing_of, run_thing_of}

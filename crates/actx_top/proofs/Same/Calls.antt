@@ -7,14 +7,14 @@ use Rattle.actx_data.specs.declared.shown.ErrorName.TheVariants.{TypeError}
 use Rattle.actx_data.specs.declared.trace.TraceEvent.TheVariants.{Out}
 use Rattle.actx_data.specs.declared.value.Value.{Value}
 use Rattle.actx_data.specs.declared.value.Value.TheVariants as v
-use Rattle.actx_ast.specs.Grammar.{count}
+use Rattle.actx_grammar.specs.Grammar.{count}
 use Rattle.actx_top.specs.Texts.{same_text}
-use Rattle.actx_ast.specs.declared.side.Side.TheVariants.{Source}
-use Rattle.actx_ast.specs.declared.side.Side.TheVariants as side
-use Rattle.actx_ast.specs.declared.operators.BinaryOp.{BinaryOp}
-use Rattle.actx_ast.specs.declared.operators.Form.TheVariants.{NewVariable}
-use Rattle.actx_ast.specs.Tree as t
-use Rattle.actx_ast.specs.Tree.{Exprs, Stmts}
+use Rattle.actx_grammar.specs.declared.side.Side.TheVariants.{Source}
+use Rattle.actx_grammar.specs.declared.side.Side.TheVariants as side
+use Rattle.actx_grammar.specs.declared.operators.BinaryOp.{BinaryOp}
+use Rattle.actx_grammar.specs.declared.operators.Form.TheVariants.{NewVariable}
+use Rattle.actx_grammar.specs.Tree as t
+use Rattle.actx_grammar.specs.Tree.{Exprs, Stmts}
 use Rattle.actx_top.specs.Operators.{Answer}
 use Rattle.actx_top.specs.Printing.{line_of, is_line}
 use Rattle.actx_top.specs.Properties.{with_prop, with_props, any_proto}

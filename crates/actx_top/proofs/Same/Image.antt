@@ -1,15 +1,15 @@
 -- A program of the forms that are taken stands in the relation to its emitted program.
 use Rattle.std.proofs.Common.{◌≡◌, ◌≢◌, ℕ, suc, ◌+◌, ◌≤◌, Bool, true, false, List, [], ◌∷◌, length, Option, Some, None, refl, sym, ap, ◌∙◌, leb-true}
 use Rattle.std.specs.Prelude.{codes, nat_le}
-use Rattle.actx_ast.specs.declared.operators.BinaryOp.{BinaryOp}
-use Rattle.actx_ast.specs.declared.operators.BinaryOp.TheVariants as o
-use Rattle.actx_ast.specs.declared.operators.Form.{Form}
-use Rattle.actx_ast.specs.declared.operators.Form.TheVariants.{Log, NewVariable}
-use Rattle.actx_ast.specs.declared.operators.FunctionKind.TheVariants.{Arrow}
-use Rattle.actx_ast.specs.Grammar.{count}
-use Rattle.actx_ast.specs.Nodes.{expr_nodes, prop_key_nodes, stmt_nodes}
-use Rattle.actx_ast.specs.Static.{is_among}
-use Rattle.actx_ast.specs.Tree.{Expr, Num, Text, Undefined, Named, Binary, Member, Call, Object, Function, Built, Exprs, none, also, MaybeExpr, no_expr, some_expr, Key, Dot, Index, PropKey, Fixed, Computed, Properties, no_properties, property, Code, code, ConstItems, no_consts, const_item, Stmt, Const, Value, Return, Stmts, end, next}
+use Rattle.actx_grammar.specs.declared.operators.BinaryOp.{BinaryOp}
+use Rattle.actx_grammar.specs.declared.operators.BinaryOp.TheVariants as o
+use Rattle.actx_grammar.specs.declared.operators.Form.{Form}
+use Rattle.actx_grammar.specs.declared.operators.Form.TheVariants.{Log, NewVariable}
+use Rattle.actx_grammar.specs.declared.operators.FunctionKind.TheVariants.{Arrow}
+use Rattle.actx_grammar.specs.Grammar.{count}
+use Rattle.actx_grammar.specs.Nodes.{expr_nodes, prop_key_nodes, stmt_nodes}
+use Rattle.actx_grammar.specs.Static.{is_among}
+use Rattle.actx_grammar.specs.Tree.{Expr, Num, Text, Undefined, Named, Binary, Member, Call, Object, Function, Built, Exprs, none, also, MaybeExpr, no_expr, some_expr, Key, Dot, Index, PropKey, Fixed, Computed, Properties, no_properties, property, Code, code, ConstItems, no_consts, const_item, Stmt, Const, Value, Return, Stmts, end, next}
 use Rattle.actx_top.specs.Low.{names_renamed, renamed, all_renamed, properties_renamed, items_renamed, stmt_renamed, value_renamed, program_renamed}
 use Rattle.actx_top.specs.Related.{NamesAre, no_names, more_names, ExprIs, num_expr, text_expr, undefined_expr, named_expr, binary_expr, member_expr, call_expr, arrow_expr, log_expr, variable_expr, options_expr, ExprsAre, no_exprs, more_exprs, PropertiesAre, no_properties_are, more_properties, ItemsAre, no_items_are, more_items, StmtIs, const_stmt, value_stmt, return_stmt, return_nothing_stmt, StmtsAre, no_stmts, more_stmts}
 use Rattle.actx_top.specs.State.{or_else}

@@ -6,7 +6,7 @@ use Rattle.actx_data.specs.declared.end.End.TheVariants.{Left}
 use Rattle.actx_data.specs.declared.shown.ErrorName.{ErrorName}
 use Rattle.actx_data.specs.declared.trace.TraceEvent.{TraceEvent}
 use Rattle.actx_data.specs.declared.value.Value.{Value}
-use Rattle.actx_ast.specs.declared.side.Side.TheVariants.{Plain}
+use Rattle.actx_grammar.specs.declared.side.Side.TheVariants.{Plain}
 use Rattle.actx_top.specs.Machine.{throws, first, rest, at, takes, step}
 use Rattle.actx_top.specs.State.{Completion, Throw, Cell, Thing, Failure, Task, Given, Done, Frame, Store, Move, Goes, Writes, Stops}
 use Rattle.actx_top.specs.Related.{World, ValueIs, undefined_is, ValuesAre, no_values, more_values, ArgumentsAre, no_arguments, padded_arguments, more_arguments, throw_is, failure_is, Wait, ForValue, ForCompletion, ForThrow, FramesAre, Fits, fits_any, fits_throw, fits_lost, TaskIs, given_is, done_is, ScopeIs, here, away_call, away_given, away_done, away_end, StoreIs, doing_is, over_is, Related, MoveIs, goes_is, writes_is, stops_is}

@@ -8,7 +8,7 @@ use Rattle.actx_data.specs.declared.end.End.TheVariants.{Left}
 use Rattle.actx_data.specs.declared.value.Value.{Value}
 use Rattle.actx_data.specs.declared.value.Value.TheVariants as v
 use Rattle.actx_top.specs.Taken.{longest_text}
-use Rattle.actx_ast.specs.declared.side.Side.TheVariants.{Plain as plain}
+use Rattle.actx_grammar.specs.declared.side.Side.TheVariants.{Plain as plain}
 use Rattle.actx_top.specs.Agent.{variable_props}
 use Rattle.actx_top.specs.Operators.{Leaves}
 use Rattle.actx_top.specs.Properties.{fixed_or, get_thing, with_entry}

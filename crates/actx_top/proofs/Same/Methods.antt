@@ -7,7 +7,7 @@ use Rattle.actx_data.specs.declared.shown.ErrorName.TheVariants.{TypeError}
 use Rattle.actx_data.specs.declared.trace.TraceEvent.TheVariants.{Get}
 use Rattle.actx_data.specs.declared.value.Value.{Value}
 use Rattle.actx_data.specs.declared.value.Value.TheVariants as v
-use Rattle.actx_ast.specs.declared.side.Side.TheVariants.{Plain}
+use Rattle.actx_grammar.specs.declared.side.Side.TheVariants.{Plain}
 use Rattle.actx_top.specs.Agent.{mapped_or, with_mapped, this_variable}
 use Rattle.actx_top.specs.Properties.{entry_at, more_shown}
 use Rattle.actx_top.specs.Machine.{throws, gets, runs, first, rest, call_thing, row, at}

@@ -7,7 +7,7 @@ use Rattle.actx_match.proofs.Pairing.{paired_set, get_set_same, get_set_other}
 use Rattle.actx_data.specs.declared.value.Value.{Value}
 use Rattle.actx_data.specs.declared.value.Value.TheVariants as v
 use Rattle.actx_top.specs.Texts.{same_text}
-use Rattle.actx_ast.specs.Tree.{ConstItems, Stmts}
+use Rattle.actx_grammar.specs.Tree.{ConstItems, Stmts}
 use Rattle.actx_top.specs.Low.{p_}
 use Rattle.actx_top.specs.Prelude.{name_variable}
 use Rattle.actx_top.specs.State.{Cell, cell_of, or_else, option_or, cells_at, find, given_cell, set_cell, set_in, with_cell, with_items, with_names, with_params}

@@ -9,14 +9,14 @@ use Rattle.actx_data.specs.declared.shown.ErrorName.TheVariants.{ReferenceError}
 use Rattle.actx_data.specs.declared.trace.TraceEvent.{TraceEvent}
 use Rattle.actx_data.specs.declared.value.Value.{Value}
 use Rattle.actx_data.specs.declared.value.Value.TheVariants as v
-use Rattle.actx_ast.specs.declared.side.Side.TheVariants.{Source}
-use Rattle.actx_ast.specs.declared.side.Side.TheVariants as side
-use Rattle.actx_ast.specs.declared.operators.FunctionKind.TheVariants.{Arrow as arrow_kind}
-use Rattle.actx_ast.specs.declared.operators.Form.TheVariants.{Log, NewVariable}
-use Rattle.actx_ast.specs.Grammar.{count}
-use Rattle.actx_ast.specs.ParserOperands.{suits}
-use Rattle.actx_ast.specs.Tree as t
-use Rattle.actx_ast.specs.Tree.{Expr, Exprs, Properties, ConstItems, Stmt, Stmts}
+use Rattle.actx_grammar.specs.declared.side.Side.TheVariants.{Source}
+use Rattle.actx_grammar.specs.declared.side.Side.TheVariants as side
+use Rattle.actx_grammar.specs.declared.operators.FunctionKind.TheVariants.{Arrow as arrow_kind}
+use Rattle.actx_grammar.specs.declared.operators.Form.TheVariants.{Log, NewVariable}
+use Rattle.actx_grammar.specs.Grammar.{count}
+use Rattle.actx_grammar.specs.ParserOperands.{suits}
+use Rattle.actx_grammar.specs.Tree as t
+use Rattle.actx_grammar.specs.Tree.{Expr, Exprs, Properties, ConstItems, Stmt, Stmts}
 use Rattle.actx_top.specs.Prelude.{name_variable}
 use Rattle.actx_top.specs.Machine.{read_cell, call_thing, call, eval_parts, keys_of, are_fixed, values_of, eval, begin_item, exec, exec_list, exec_body, next_statement, takes, step}
 use Rattle.actx_top.specs.State.{Normal, Cell, Closure, Eval, Given, Done, CallOf, BuiltIn, MakeObject, Frame, Pending, Store, Move, Goes, Stops, with_names}

@@ -12,8 +12,8 @@ use Rattle.actx_data.specs.declared.value.Value.{Value}
 use Rattle.actx_data.specs.declared.value.Value.TheVariants as v
 use Rattle.actx_top.specs.Texts.{same_text}
 use Rattle.actx_top.specs.Taken.{longest_text}
-use Rattle.actx_ast.specs.declared.operators.BinaryOp.{BinaryOp}
-use Rattle.actx_ast.specs.declared.operators.BinaryOp.TheVariants as o
+use Rattle.actx_grammar.specs.declared.operators.BinaryOp.{BinaryOp}
+use Rattle.actx_grammar.specs.declared.operators.BinaryOp.TheVariants as o
 use Rattle.actx_top.specs.Operators.{Answer, Gives, Throws, Leaves, number_or_leaves, text_or_leaves, truth_text, primitive_text, join_before, plus, minus, times, same, binary}
 use Rattle.actx_top.specs.Printing.{thing_text, printed, printed_more, line_of, is_format, is_line}
 use Rattle.actx_top.specs.Properties.{prop_of, own_or, fixed_or, error_text, failure_props, get_thing, number_of_units, get, place_in, is_in, show_thing, show, more_shown}

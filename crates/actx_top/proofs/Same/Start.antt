@@ -8,11 +8,11 @@ use Rattle.actx_match.proofs.Pairing.{paired_none, paired_more, paired_extra}
 use Rattle.actx_data.specs.declared.event.Event.{Event}
 use Rattle.actx_data.specs.declared.trace.TraceEvent.{TraceEvent}
 use Rattle.actx_data.specs.declared.value.Value.TheVariants as v
-use Rattle.actx_ast.specs.declared.side.Side.TheVariants.{Source}
-use Rattle.actx_ast.specs.declared.side.Side.TheVariants as side
+use Rattle.actx_grammar.specs.declared.side.Side.TheVariants.{Source}
+use Rattle.actx_grammar.specs.declared.side.Side.TheVariants as side
 use Rattle.actx_top.specs.Texts.{same_text}
-use Rattle.actx_ast.specs.Tree as t
-use Rattle.actx_ast.specs.Tree.{ConstItems, Stmt, Stmts}
+use Rattle.actx_grammar.specs.Tree as t
+use Rattle.actx_grammar.specs.Tree.{ConstItems, Stmt, Stmts}
 use Rattle.actx_top.specs.Low.{p_, followed_by}
 use Rattle.actx_top.specs.Prelude.{name_states, name_now, name_find, name_with, name_get, name_run, name_make, name_variable, prelude}
 use Rattle.actx_top.specs.State.{Normal, Cell, Prop, VariableGet, VariableRun, WeakMapGet, WeakMapSet, Thing, Plain, Native, Weak, Task, Exec, Done, Frame, ListFrame, Store, State, Move, Goes, Writes, Stops, with_cell, unset, with_items, with_names}

@@ -7,10 +7,10 @@ use Rattle.actx_data.specs.declared.event.Event.{Event}
 use Rattle.actx_data.specs.declared.trace.TraceEvent.{TraceEvent}
 use Rattle.actx_data.specs.declared.value.Value.{Value}
 use Rattle.actx_data.specs.declared.value.Value.TheVariants as v
-use Rattle.actx_ast.specs.declared.side.Side.TheVariants.{Source}
-use Rattle.actx_ast.specs.declared.side.Side.TheVariants as side
-use Rattle.actx_ast.specs.Grammar.{count}
-use Rattle.actx_ast.specs.Tree.{Exprs}
+use Rattle.actx_grammar.specs.declared.side.Side.TheVariants.{Source}
+use Rattle.actx_grammar.specs.declared.side.Side.TheVariants as side
+use Rattle.actx_grammar.specs.Grammar.{count}
+use Rattle.actx_grammar.specs.Tree.{Exprs}
 use Rattle.actx_top.specs.Operators.{Answer}
 use Rattle.actx_top.specs.Properties.{show, more_shown}
 use Rattle.actx_top.specs.Machine.{idle, base_given, given, done, row, at, step}

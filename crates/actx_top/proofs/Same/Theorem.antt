@@ -10,10 +10,10 @@ use Rattle.actx_match.proofs.Traced.{orderly_by}
 use Rattle.actx_data.specs.declared.end.End.TheVariants.{Going, Ended, Threw, Left}
 use Rattle.actx_data.specs.declared.event.Event.{Event}
 use Rattle.actx_data.specs.declared.trace.TraceEvent.{TraceEvent}
-use Rattle.actx_ast.specs.declared.side.Side.{Side}
-use Rattle.actx_ast.specs.declared.side.Side.TheVariants.{Source, Plain}
+use Rattle.actx_grammar.specs.declared.side.Side.{Side}
+use Rattle.actx_grammar.specs.declared.side.Side.TheVariants.{Source, Plain}
 use Rattle.actx_top.specs.Taken.{IsTaken}
-use Rattle.actx_ast.specs.Tree.{Stmts, end, next}
+use Rattle.actx_grammar.specs.Tree.{Stmts, end, next}
 use Rattle.actx_top.specs.Low.{program_renamed, low}
 use Rattle.actx_top.specs.State.{Task, Frame, Store, Now, Doing, Over, State, Move, Goes, Writes, Stops}
 use Rattle.actx_top.specs.Machine.{row, at, takes, step_at, step, start, end_of, goes}

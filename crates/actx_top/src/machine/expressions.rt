@@ -2,9 +2,9 @@
 
 ghost use Rattle.std.specs.Prelude.{◌≡◌, IfOk, OnOk, Some, None, option_map, if◌then◌else◌, ◌&&◌};
 ghost use Rattle.actx_data.specs.declared.end.End.TheVariants.{Going, Left};
-ghost use Rattle.actx_ast.specs.declared.side.Side.TheVariants.{Plain};
-ghost use Rattle.actx_ast.specs.Grammar.{count};
-ghost use Rattle.actx_ast.specs.ParserOperands.{suits};
+ghost use Rattle.actx_grammar.specs.declared.side.Side.TheVariants.{Plain};
+ghost use Rattle.actx_grammar.specs.Grammar.{count};
+ghost use Rattle.actx_grammar.specs.ParserOperands.{suits};
 ghost use Rattle.actx_ast.specs.View.{expr_view, exprs_view, function_view, prop_key_view, properties_view, stmts_view};
 ghost use Rattle.actx_top.specs.Cells.{found_cell};
 ghost use Rattle.actx_top.specs.Chains.{chain_of};
@@ -20,8 +20,8 @@ use crate::operators::Answer;
 use crate::scope::{Reading, Scope};
 use crate::sound::Sound;
 use crate::thing::Thing;
-use actx_ast::name::Name;
-use actx_ast::operators::{Form, FunctionKind};
+use actx_grammar::name::Name;
+use actx_grammar::operators::{Form, FunctionKind};
 use actx_ast::tree::{Expr, Function, Key, PropKey, Property};
 use actx_data::{End, ErrorName, NoMemory, Twin, Units};
 use std::alloc::Global;

@@ -2,7 +2,7 @@
 
 ghost use Rattle.std.specs.Prelude.{◌≡◌, [], ◌∷◌, IfOk, OnOk};
 ghost use Rattle.actx_data.specs.declared.end.End.TheVariants.{Going, Left};
-ghost use Rattle.actx_ast.specs.declared.side.Side.TheVariants.{Plain};
+ghost use Rattle.actx_grammar.specs.declared.side.Side.TheVariants.{Plain};
 ghost use Rattle.actx_ast.specs.View.{expr_view, prop_key_view, properties_view};
 ghost use Rattle.actx_top.specs.State.{Goes, Eval, Pending};
 ghost use Rattle.actx_top.specs.Properties.{with_props, any_proto, is_proto};
@@ -18,8 +18,8 @@ use crate::sound::Sound;
 use crate::table::Table;
 use crate::thing::Thing;
 use crate::word::is_text;
-use actx_ast::name::Name;
-use actx_ast::operators::BinaryOp;
+use actx_grammar::name::Name;
+use actx_grammar::operators::BinaryOp;
 use actx_ast::tree::{Expr, PropKey, Property};
 use actx_data::{End, ErrorName, NoMemory, Twin, Units};
 use std::alloc::Global;

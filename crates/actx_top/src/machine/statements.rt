@@ -2,7 +2,7 @@
 
 ghost use Rattle.std.specs.Prelude.{◌≡◌, [], IfOk, OnOk};
 ghost use Rattle.actx_data.specs.declared.end.End.TheVariants.{Going, Left};
-ghost use Rattle.actx_ast.specs.Tree.{next, end, Return};
+ghost use Rattle.actx_grammar.specs.Tree.{next, end, Return};
 ghost use Rattle.std.specs.Prelude.{option_map, slice_set};
 ghost use Rattle.std.specs.Option.{option_copied};
 ghost use Rattle.actx_ast.specs.View.{expr_view, stmt_view, stmts_view, consts_view, maybe_expr};
@@ -15,7 +15,7 @@ use super::{Completion, Frame, Target, Task};
 use crate::chain::{Chain, again, inside};
 use crate::scope::Scope;
 use crate::sound::Sound;
-use actx_ast::name::Name;
+use actx_grammar::name::Name;
 use actx_ast::tree::{ConstItem, Expr, Stmt};
 use actx_data::{End, NoMemory};
 use std::alloc::Global;

@@ -3,7 +3,7 @@
 ghost use Rattle.std.specs.Prelude.{◌≡◌, [], ◌∷◌, ◌++◌, OnOk, option_map, reverse};
 ghost use Rattle.actx_match.specs.Runs.{run};
 ghost use Rattle.actx_data.specs.declared.end.End.TheVariants.{Going, Threw};
-ghost use Rattle.actx_ast.specs.declared.side.Side.TheVariants.{Plain};
+ghost use Rattle.actx_grammar.specs.declared.side.Side.TheVariants.{Plain};
 ghost use Rattle.actx_ast.specs.View.{exprs_view, maybe_stmt, stmt_view, stmts_view};
 ghost use Rattle.actx_top.specs.Chains.{chain_of};
 ghost use Rattle.actx_top.specs.State.{back_from, CallOf, TryFrame};
@@ -18,7 +18,7 @@ use crate::chain::Chain;
 use crate::operators::{Answer, is_true};
 use crate::property::get;
 use crate::sound::Sound;
-use actx_ast::name::Name;
+use actx_grammar::name::Name;
 use actx_ast::tree::{Expr, Stmt};
 use actx_data::{End, NoMemory};
 use std::mem;

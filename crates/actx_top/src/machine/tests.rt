@@ -4,7 +4,7 @@ use super::Target;
 use crate::cases::{add_line, cases};
 use crate::operators::ascii;
 use crate::shown_text::shown_text;
-use actx_ast::side::Side;
+use actx_grammar::side::Side;
 use actx_ast::tree::Program;
 use actx_data::{End, Event, NoMemory, Shown, TraceEvent, Twin, Units};
 use actx_lex::lex::lex;

@@ -1,7 +1,7 @@
 //! The bodies of the prelude's functions.
 
 ghost use Rattle.std.specs.Prelude.{◌≡◌, IfOk, [], codes};
-ghost use Rattle.actx_ast.specs.Tree as t;
+ghost use Rattle.actx_grammar.specs.Tree as t;
 ghost use Rattle.actx_ast.specs.View.{expr_view, exprs_view, stmt_view, stmts_view};
 ghost use Rattle.actx_top.specs.Prelude as spec;
 
@@ -9,7 +9,7 @@ use super::shapes::{
     and, and_named, both, call, call_of, constant, ended_by, freeze, member_of, named, one, only,
     property, returned, same, set_member, then, three, two, units, when,
 };
-use actx_ast::operators::{BinaryOp, Form};
+use actx_grammar::operators::{BinaryOp, Form};
 use actx_ast::tree::{Expr, Property, Stmt};
 use actx_data::{NoMemory, Units};
 use std::alloc::Global;

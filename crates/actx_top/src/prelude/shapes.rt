@@ -1,14 +1,14 @@
 //! Shapes of which the prelude is built, as `base.key` and `const name = value;`.
 
 ghost use Rattle.std.specs.Prelude.{◌≡◌, IfOk, [], ◌∷◌, ◌++◌, option_map};
-ghost use Rattle.actx_ast.specs.Grammar.{with_last};
-ghost use Rattle.actx_ast.specs.Parser.{with_stmt};
-ghost use Rattle.actx_ast.specs.Tree as t;
+ghost use Rattle.actx_grammar.specs.Grammar.{with_last};
+ghost use Rattle.actx_grammar.specs.Parser.{with_stmt};
+ghost use Rattle.actx_grammar.specs.Tree as t;
 ghost use Rattle.actx_ast.specs.View.{expr_view, exprs_view, maybe_stmt, properties_view, stmt_view, stmts_view};
 ghost use Rattle.actx_top.specs.Prelude as spec;
 
-use actx_ast::name::Name;
-use actx_ast::operators::{BinaryOp, Form};
+use actx_grammar::name::Name;
+use actx_grammar::operators::{BinaryOp, Form};
 use actx_ast::tree::{ConstItem, Expr, Key, PropKey, Property, Stmt};
 use actx_data::{NoMemory, Units};
 use std::alloc::Global;

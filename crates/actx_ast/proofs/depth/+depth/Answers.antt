@@ -1,9 +1,9 @@
 use Rattle.std.proofs.Common.{◌≡◌, suc, min, max, drop, sym, ap, ◌∙◌, nat_lt, rules, option_map}
 use Rattle.actx_ast.specs.declared.tree.Expr.{the_lemmas}
-use Rattle.actx_ast.specs.Depth as spec
-use Rattle.actx_ast.specs.Spell.{within}
+use Rattle.actx_grammar.specs.Depth as spec
+use Rattle.actx_grammar.specs.Spell.{within}
 use Rattle.actx_ast.specs.Starts.{start_of}
-use Rattle.actx_ast.specs.Tree as tree
+use Rattle.actx_grammar.specs.Tree as tree
 use Rattle.actx_ast.specs.View.{expr_view, exprs_view, init_view, stmt_view, maybe_expr}
 use Rattle.actx_ast.proofs.FormDepths.{form_level, call_of_none, call_of_some, two_level, for_level}
 use Rattle.actx_ast.proofs.depth.+depth.Goals as goal

@@ -1,5 +1,5 @@
 use Rattle.std.proofs.Common.{◌≡◌, min, max, drop}
-use Rattle.actx_ast.specs.Depth.{depth_list, depth_properties, depth_lets, depth_consts, depth_program, depth_clauses}
+use Rattle.actx_grammar.specs.Depth.{depth_list, depth_properties, depth_lets, depth_consts, depth_program, depth_clauses}
 use Rattle.actx_ast.specs.View.{exprs_view, properties_view, lets_view, consts_view, stmts_view, clauses_view}
 use Rattle.actx_ast.proofs.depth.+depth.Given as goal
 

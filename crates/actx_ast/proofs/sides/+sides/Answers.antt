@@ -1,7 +1,7 @@
 use Rattle.std.proofs.Common.{◌≡◌, ◌↔◌, IsTrue, rules}
 use Rattle.actx_ast.specs.declared.tree.Expr.{the_lemmas}
-use Rattle.actx_ast.specs.Sides.{CatchOn, StmtsOn}
-use Rattle.actx_ast.specs.Tree.{catch, no_catch, last, no_last, Try}
+use Rattle.actx_grammar.specs.Sides.{CatchOn, StmtsOn}
+use Rattle.actx_grammar.specs.Tree.{catch, no_catch, last, no_last, Try}
 use Rattle.actx_ast.specs.View.{clauses_view, stmt_view, stmts_view}
 use Rattle.actx_ast.proofs.SideClauses.{where_last, elsewhere}
 use Rattle.actx_ast.proofs.SideTries.{off, with_both, with_catch, with_last}

@@ -1,6 +1,6 @@
 use Rattle.std.proofs.Common.{◌↔◌, drop}
 use Rattle.actx_ast.specs.Clauses.{EachOn}
-use Rattle.actx_ast.specs.Sides.{ExprsOn, PropertiesOn, LetsOn, ConstsOn, StmtsOn}
+use Rattle.actx_grammar.specs.Sides.{ExprsOn, PropertiesOn, LetsOn, ConstsOn, StmtsOn}
 use Rattle.actx_ast.specs.View.{exprs_view, properties_view, lets_view, consts_view, clauses_view, stmts_view}
 use Rattle.actx_ast.proofs.sides.+sides.Given as goal
 

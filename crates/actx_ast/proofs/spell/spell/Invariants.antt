@@ -1,5 +1,5 @@
 use Rattle.std.proofs.Common.{◌≡◌, ◌++◌}
-use Rattle.actx_ast.specs.Spell.{spell_program}
+use Rattle.actx_grammar.specs.Spell.{spell_program}
 use Rattle.actx_ast.specs.Unspelled.{rest_of, weigh}
 use Rattle.actx_ast.specs.View.{program_view}
 use Rattle.actx_ast.proofs.spell.spell.Given as goal

@@ -1,7 +1,7 @@
 use Rattle.std.proofs.Common.{◌≡◌, ℕ, sym, subst, Global}
 use Rattle.std.specs.Prelude.{Vec}
 use Rattle.std.specs.Str.{encode_utf8_all}
-use Rattle.actx_ast.specs.Spell.{spell_program}
+use Rattle.actx_grammar.specs.Spell.{spell_program}
 use Rattle.actx_ast.specs.View.{program_view}
 use Rattle.actx_emit.specs.Layout.{layout}
 use Rattle.actx_emit.specs.Reads.{ReadsBack}

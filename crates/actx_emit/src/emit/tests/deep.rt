@@ -1,7 +1,7 @@
 //! Programs of 40,000 levels and their texts.
 
 use super::{one, text, value};
-use actx_ast::operators::{FunctionKind, UnaryOp};
+use actx_grammar::operators::{FunctionKind, UnaryOp};
 use actx_ast::tree::{Expr, Function, Stmt};
 use actx_data::NoMemory;
 use std::alloc::Global;

@@ -1,7 +1,7 @@
 //! Expressions and their texts.
 
 use super::{boxed, name, named, units, value};
-use actx_ast::operators::{BinaryOp, Form, LogicOp, UnaryOp};
+use actx_grammar::operators::{BinaryOp, Form, LogicOp, UnaryOp};
 use actx_ast::tree::{Expr, Key, PropKey, Property};
 use actx_data::NoMemory;
 use std::alloc::Global;

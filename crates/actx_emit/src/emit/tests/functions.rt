@@ -1,8 +1,8 @@
 //! Functions and their texts.
 
 use super::{name, one, text, value};
-use actx_ast::name::Name;
-use actx_ast::operators::FunctionKind;
+use actx_grammar::name::Name;
+use actx_grammar::operators::FunctionKind;
 use actx_ast::tree::{Expr, Function, Stmt};
 use actx_data::NoMemory;
 use std::alloc::Global;

@@ -1,7 +1,7 @@
 use Rattle.std.proofs.Common.{◌≡◌, ◌<◌, ◌+◌, ℕ, List, [], ◌∷◌, ◌++◌, length, take, All, sym, ◌∙◌, ap, subst, arith, eqb, false}
 use Rattle.std.proofs.lemmas.Bool.{eqb-false}
 use Rattle.std.proofs.lemmas.List.Elements.{All-nil, All-push}
-use Rattle.actx_ast.specs.Words.{HasForm}
+use Rattle.actx_grammar.specs.Words.{HasForm}
 use Rattle.actx_lex.specs.Lexical.{Place, start, size, kinds_of, passed, behind, is_fresh, token_at, Reads, here}
 use Rattle.actx_lex.specs.Lexeme.{CutFault}
 use Rattle.actx_lex.specs.Spots.{place_of}

@@ -1,5 +1,5 @@
 use Rattle.std.proofs.Common.{◌≡◌, ◌+◌, All, length}
-use Rattle.actx_ast.specs.Words.{HasForm}
+use Rattle.actx_grammar.specs.Words.{HasForm}
 use Rattle.actx_lex.specs.Lexical.{start, size, kinds_of, Reads}
 use Rattle.actx_lex.specs.Spots.{place_of}
 use Rattle.actx_lex.proofs.lex.cut.Given as goal

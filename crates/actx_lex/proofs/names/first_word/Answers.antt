@@ -1,6 +1,6 @@
 use Rattle.std.proofs.Common.{◌≡◌, sym, ◌∙◌, ap, subst, take}
-use Rattle.actx_ast.specs.declared.token.TokenKind.TheVariants as t
-use Rattle.actx_ast.specs.Words.{HasForm}
+use Rattle.actx_grammar.specs.declared.token.TokenKind.TheVariants as t
+use Rattle.actx_grammar.specs.Words.{HasForm}
 use Rattle.actx_lex.specs.Lexeme.{Begins}
 use Rattle.actx_lex.proofs.NameRuns.{keyword_begins, name_begins, run_name}
 use Rattle.actx_lex.proofs.names.first_word.Goals as goal

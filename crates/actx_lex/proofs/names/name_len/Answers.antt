@@ -1,7 +1,7 @@
 use Rattle.std.proofs.Common.{◌<◌, ap, arith, sym, ◌∙◌, ◌≡◌, length}
 use Rattle.std.proofs.lemmas.List.{get_or_read}
 use Rattle.std.proofs.lemmas.List.Sums.{prefix_len_is}
-use Rattle.actx_ast.specs.Words.{is_name_part}
+use Rattle.actx_grammar.specs.Words.{is_name_part}
 use Rattle.actx_lex.proofs.names.name_len.Goals as goal
 
 pub returns-then-not-is_name_part-clause-run : goal.returns-then-not-is_name_part-clause-run

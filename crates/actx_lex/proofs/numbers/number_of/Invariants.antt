@@ -1,6 +1,6 @@
 use Rattle.std.proofs.Common.{◌≡◌, ◌≤◌, take}
 use Rattle.std.specs.Str.Parse.{digits_value}
-use Rattle.actx_ast.specs.Words.{greatest_number}
+use Rattle.actx_grammar.specs.Words.{greatest_number}
 use Rattle.actx_lex.proofs.numbers.number_of.Given as goal
 
 abbrev pub invariant-loop-digit : goal.invariant-loop-digit

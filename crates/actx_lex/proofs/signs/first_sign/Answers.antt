@@ -1,7 +1,7 @@
 use Rattle.std.proofs.Common.{◌≡◌, ◌≢◌, ℕ, false, length, get_or, eqb, Option, Some, None, sym, ◌∙◌, ap, subst}
 use Rattle.std.proofs.lemmas.Bool.{or_from, ne_eqb}
-use Rattle.actx_ast.specs.declared.token.Sign.{Sign}
-use Rattle.actx_ast.specs.declared.token.TokenKind.TheVariants as t
+use Rattle.actx_grammar.specs.declared.token.Sign.{Sign}
+use Rattle.actx_grammar.specs.declared.token.TokenKind.TheVariants as t
 use Rattle.actx_lex.specs.Lexeme.{Begins, longest_sign, may_follow}
 use Rattle.actx_lex.proofs.Classes.{is_quote}
 use Rattle.actx_lex.proofs.SignsLongest.{sign_begins, sign_apart}

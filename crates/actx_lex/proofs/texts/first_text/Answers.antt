@@ -1,6 +1,6 @@
 use Rattle.std.proofs.Common.{◌<◌, ◌+◌, ◌-◌, ◌++◌, ℕ, List, [], All, length, get_or, drop, refl, sym, ◌∙◌, ap, subst, arith}
 use Rattle.std.proofs.lemmas.List.Elements.{All-nil, All-append}
-use Rattle.actx_ast.specs.declared.token.TokenKind.TheVariants as t
+use Rattle.actx_grammar.specs.declared.token.TokenKind.TheVariants as t
 use Rattle.actx_lex.specs.declared.escapes.Piece.{Piece}
 use Rattle.actx_lex.specs.Lexeme.{Begins}
 use Rattle.actx_lex.specs.Pieces.{next_piece, units_in}

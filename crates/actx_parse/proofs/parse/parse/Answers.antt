@@ -1,5 +1,5 @@
 use Rattle.std.proofs.Common.{◌≡◌, sym, ◌∙◌, ap}
-use Rattle.actx_ast.specs.Parser.{limits}
+use Rattle.actx_grammar.specs.Parser.{limits}
 use Rattle.actx_ast.specs.View.{program_view}
 use Rattle.actx_lex.specs.Lexemes.{lexemes}
 use Rattle.actx_parse.specs.Scan.{found, scan, scan_of}

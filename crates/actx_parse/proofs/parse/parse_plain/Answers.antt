@@ -1,4 +1,4 @@
-use Rattle.actx_ast.specs.declared.side.Side.TheVariants.{Plain}
+use Rattle.actx_grammar.specs.declared.side.Side.TheVariants.{Plain}
 use Rattle.actx_lex.specs.Lexemes.{lexemes}
 use Rattle.actx_parse.proofs.ParseAnswers as answers
 use Rattle.actx_parse.proofs.parse.parse_plain.Goals as goal

@@ -1,5 +1,5 @@
 use Rattle.std.proofs.Common.{◌≡◌, ◌+◌, drop}
-use Rattle.actx_ast.specs.Nodes.{exprs_nodes, properties_nodes, lets_nodes, consts_nodes, stmts_nodes, clauses_nodes}
+use Rattle.actx_grammar.specs.Nodes.{exprs_nodes, properties_nodes, lets_nodes, consts_nodes, stmts_nodes, clauses_nodes}
 use Rattle.actx_ast.specs.View.{exprs_view, properties_view, lets_view, consts_view, stmts_view, clauses_view}
 use Rattle.actx_scope.proofs.count.+count.Given as goal
 

@@ -1,5 +1,5 @@
 use Rattle.std.proofs.Common.{◌≡◌, ◌++◌, drop}
-use Rattle.actx_ast.specs.Static.{consts_declared}
+use Rattle.actx_grammar.specs.Static.{consts_declared}
 use Rattle.actx_ast.specs.View.{consts_view}
 use Rattle.actx_scope.proofs.declared.add_consts.Given as goal
 

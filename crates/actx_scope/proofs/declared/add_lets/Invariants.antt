@@ -1,5 +1,5 @@
 use Rattle.std.proofs.Common.{◌≡◌, ◌++◌, drop}
-use Rattle.actx_ast.specs.Static.{lets_declared}
+use Rattle.actx_grammar.specs.Static.{lets_declared}
 use Rattle.actx_ast.specs.View.{lets_view}
 use Rattle.actx_scope.proofs.declared.add_lets.Given as goal
 

@@ -1,5 +1,5 @@
 use Rattle.std.proofs.Common.{◌≡◌, ◌++◌, drop}
-use Rattle.actx_ast.specs.Static.{list_declared}
+use Rattle.actx_grammar.specs.Static.{list_declared}
 use Rattle.actx_ast.specs.View.{stmts_view}
 use Rattle.actx_scope.proofs.declared.add_list.Given as goal
 

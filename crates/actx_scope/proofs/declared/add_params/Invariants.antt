@@ -1,5 +1,5 @@
 use Rattle.std.proofs.Common.{◌≡◌, ◌++◌, drop}
-use Rattle.actx_ast.specs.Static.{params_declared}
+use Rattle.actx_grammar.specs.Static.{params_declared}
 use Rattle.actx_scope.proofs.declared.add_params.Given as goal
 
 abbrev pub invariant-loop-name : goal.invariant-loop-name

@@ -1,6 +1,6 @@
 use Rattle.std.proofs.Common.{List, [], ◌∷◌, ℕ, ◌∙◌, ap, sym}
 use Rattle.indexmap.specs.IndexSet.{insert_key}
-use Rattle.actx_ast.specs.Static.{same_name}
+use Rattle.actx_grammar.specs.Static.{same_name}
 use Rattle.actx_scope.specs.declared.link.Link.{Link}
 use Rattle.actx_scope.specs.Links.{free_of, with_names}
 use Rattle.actx_scope.proofs.FreeNames.{set_with_name}

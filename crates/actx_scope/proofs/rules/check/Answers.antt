@@ -1,5 +1,5 @@
 use Rattle.std.proofs.Common.{◌≡◌, Some, ◌∙◌, ap}
-use Rattle.actx_ast.specs.Static as spec
+use Rattle.actx_grammar.specs.Static as spec
 use Rattle.actx_ast.specs.View.{program_view}
 use Rattle.actx_scope.specs.declared.fault.CheckFault.{CheckFault}
 use Rattle.actx_scope.specs.declared.fault.CheckFault.TheVariants.{Undeclared, Twice, Reserved, Misplaced}

@@ -1,6 +1,6 @@
 use Rattle.std.proofs.Common.{◌≡◌, IfOk, subst}
 use Rattle.std.specs.Str.{encode_utf8_all}
-use Rattle.actx_ast.specs.Spell.{spell_program}
+use Rattle.actx_grammar.specs.Spell.{spell_program}
 use Rattle.actx_emit.specs.Layout.{layout}
 use Rattle.actx_top.proofs.execute.emitted.Goals as goal
 

@@ -1,5 +1,5 @@
 use Rattle.std.proofs.Common.{◌≡◌, subst}
-use Rattle.actx_ast.specs.declared.side.Side.TheVariants.{Source}
+use Rattle.actx_grammar.specs.declared.side.Side.TheVariants.{Source}
 use Rattle.actx_lex.specs.Lexemes.{lexemes}
 use Rattle.actx_parse.specs.Answers.{IsTold, RefusesAt}
 use Rattle.actx_top.proofs.Reasons.{NoneAt, unexpected_refused, deep_refused, many_refused}

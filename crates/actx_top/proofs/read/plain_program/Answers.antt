@@ -1,5 +1,5 @@
 use Rattle.std.proofs.Common.{◌≡◌, subst}
-use Rattle.actx_ast.specs.declared.side.Side.TheVariants.{Plain}
+use Rattle.actx_grammar.specs.declared.side.Side.TheVariants.{Plain}
 use Rattle.actx_parse.specs.Answers.{RefusesAt}
 use Rattle.actx_top.proofs.Reasons.{NoneAt}
 use Rattle.actx_top.proofs.Refusing.{plain_spelled, plain_read}

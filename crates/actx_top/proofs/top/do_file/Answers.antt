@@ -1,5 +1,5 @@
 use Rattle.std.proofs.Common.{◌≡◌, ◌∙◌, ℕ, List, take, sym, subst, refl, inl, inr, ⊎_elim}
-use Rattle.actx_ast.specs.Tree.{Stmts}
+use Rattle.actx_grammar.specs.Tree.{Stmts}
 use Rattle.actx_top.specs.Accepts.{Takes}
 use Rattle.actx_top.specs.Answers.{TellsRefusal}
 use Rattle.actx_top.specs.Refusals.{RefusedAt}

@@ -1,6 +1,6 @@
 use Rattle.std.proofs.Common.{◌≡◌, ◌∙◌, ◌≤◌, ◌++◌, ℕ, List, [], length, take, Option, Some, refl, sym, ap, subst, inl, inr, ⊎_elim, arith}
 use Rattle.std.proofs.lemmas.List.{append-nil}
-use Rattle.actx_ast.specs.Tree.{Stmts}
+use Rattle.actx_grammar.specs.Tree.{Stmts}
 use Rattle.actx_ast.specs.View.{program_view}
 use Rattle.actx_ports.specs.Ports.{AddsPart}
 use Rattle.actx_top.specs.Answers.{Did, Wrote, TellsAs, OutOfMemory}

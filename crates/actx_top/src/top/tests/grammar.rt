@@ -8,7 +8,7 @@ mod refused;
 mod source;
 mod trees;
 
-use actx_ast::side::Side;
+use actx_grammar::side::Side;
 use actx_lex::lex::lex;
 use actx_parse::parse::ParseFault::{TooDeep, TooMany, Unexpected};
 use actx_parse::parse::{ParseFault, parse_plain, parse_source};

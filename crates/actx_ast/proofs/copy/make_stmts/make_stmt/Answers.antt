@@ -1,7 +1,7 @@
 use Rattle.std.proofs.Common.{◌≡◌, List, ◌∷◌, map, rules, option_map}
 use Rattle.actx_ast.specs.declared.tree.Expr.{the_lemmas}
 use Rattle.actx_ast.specs.Copies.{Seen, a_stmt, catch_onto, init_onto, last_onto, maybe_onto, stmt_made, stmt_onto, with_catch, with_init, with_last, with_maybe}
-use Rattle.actx_ast.specs.Tree.{Catch, For, Init, Last, MaybeExpr, Try}
+use Rattle.actx_grammar.specs.Tree.{Catch, For, Init, Last, MaybeExpr, Try}
 use Rattle.actx_ast.specs.View.{catch_of, catcher_view, expr_view, init_view, last_of, maybe_expr, stmt_view, stmts_view}
 use Rattle.actx_ast.proofs.Made.{for_like, like_seen, try_like}
 use Rattle.actx_ast.proofs.copy.make_stmts.make_stmt.Goals as goal

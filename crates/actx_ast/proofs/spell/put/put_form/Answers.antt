@@ -1,5 +1,5 @@
 use Rattle.std.proofs.Common.{◌++◌, ap, sym, ◌∙◌}
-use Rattle.actx_ast.specs.Forms.{form_words}
+use Rattle.actx_grammar.specs.Forms.{form_words}
 use Rattle.actx_ast.proofs.SpellSteps.{on_ok}
 use Rattle.actx_ast.proofs.spell.put.put_form.Goals as goal
 

@@ -1,8 +1,8 @@
 use Rattle.std.proofs.Common.{◌≡◌, ◌++◌, ◌∷◌, [], ap, sym, ◌∙◌, append_assoc, take, ◌+◌}
 use Rattle.std.proofs.lemmas.List.{take_more}
-use Rattle.actx_ast.specs.declared.token.Sign.TheVariants as s
-use Rattle.actx_ast.specs.declared.token.TokenKind.TheVariants as t
-use Rattle.actx_ast.specs.Spell.{spell_more_names}
+use Rattle.actx_grammar.specs.declared.token.Sign.TheVariants as s
+use Rattle.actx_grammar.specs.declared.token.TokenKind.TheVariants as t
+use Rattle.actx_grammar.specs.Spell.{spell_more_names}
 use Rattle.actx_ast.proofs.SpellSteps.{more_names_last}
 use Rattle.actx_ast.proofs.spell.put.put_more_names.Goals as goal
 

@@ -1,7 +1,7 @@
 use Rattle.std.proofs.Common.{◌≡◌, ◌++◌, ap, sym, ◌∙◌, rules, option_map}
 use Rattle.actx_ast.specs.declared.tree.Expr.{the_lemmas}
-use Rattle.actx_ast.specs.Spell.{spell_stmt}
-use Rattle.actx_ast.specs.Tree as node
+use Rattle.actx_grammar.specs.Spell.{spell_stmt}
+use Rattle.actx_grammar.specs.Tree as node
 use Rattle.actx_ast.specs.Unspelled.{rest_of}
 use Rattle.actx_ast.specs.View.{expr_view, init_view, stmt_view, maybe_expr}
 use Rattle.actx_ast.proofs.SpellSteps.{on_ok}

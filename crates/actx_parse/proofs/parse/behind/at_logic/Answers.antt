@@ -1,5 +1,5 @@
 use Rattle.std.proofs.Common.{◌≡◌, false, sym, ◌∙◌}
-use Rattle.actx_ast.specs.ParserOperands.{mixes}
+use Rattle.actx_grammar.specs.ParserOperands.{mixes}
 use Rattle.actx_ast.specs.View.{expr_view}
 use Rattle.actx_parse.specs.ParserView.{bounds, settled_of, stack_view}
 use Rattle.actx_parse.proofs.ParseSettle.{logic_further}

@@ -1,8 +1,8 @@
 use Rattle.std.proofs.Common.{ap, sym, ◌∙◌}
-use Rattle.actx_ast.specs.Grammar.{count, with_last}
-use Rattle.actx_ast.specs.ParserOperands.{suits}
-use Rattle.actx_ast.specs.ParserState.{go_if, have}
-use Rattle.actx_ast.specs.Tree.{Built}
+use Rattle.actx_grammar.specs.Grammar.{count, with_last}
+use Rattle.actx_grammar.specs.ParserOperands.{suits}
+use Rattle.actx_grammar.specs.ParserState.{go_if, have}
+use Rattle.actx_grammar.specs.Tree.{Built}
 use Rattle.actx_ast.specs.View.{expr_view, exprs_view}
 use Rattle.actx_parse.proofs.ParseStack.{count_last}
 use Rattle.actx_parse.proofs.parse.ends.close_form_with.Goals as goal

@@ -1,5 +1,5 @@
 use Rattle.std.proofs.Common.{◌≡◌, ◌<◌, length, true, ◌∙◌, arith}
-use Rattle.actx_ast.specs.Forms.{form_words}
+use Rattle.actx_grammar.specs.Forms.{form_words}
 use Rattle.actx_parse.specs.ParserView.{is_word_at}
 use Rattle.actx_parse.proofs.ParseForms.{begins_more}
 use Rattle.actx_parse.proofs.parse.forms.begins_with.Goals as goal

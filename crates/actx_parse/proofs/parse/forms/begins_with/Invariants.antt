@@ -1,6 +1,6 @@
 use Rattle.std.proofs.Common.{◌≡◌, drop}
-use Rattle.actx_ast.specs.Forms.{form_words}
-use Rattle.actx_ast.specs.ParserOperands.{begins_with}
+use Rattle.actx_grammar.specs.Forms.{form_words}
+use Rattle.actx_grammar.specs.ParserOperands.{begins_with}
 use Rattle.actx_parse.proofs.parse.forms.begins_with.Given as goal
 
 abbrev pub invariant-loop-at : goal.invariant-loop-at

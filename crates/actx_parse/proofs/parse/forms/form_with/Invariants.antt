@@ -1,5 +1,5 @@
 use Rattle.std.proofs.Common.{◌≡◌, drop}
-use Rattle.actx_ast.specs.ParserOperands.{form_with, forms_of}
+use Rattle.actx_grammar.specs.ParserOperands.{form_with, forms_of}
 use Rattle.actx_parse.proofs.parse.forms.form_with.Given as goal
 
 abbrev pub invariant-loop-form : goal.invariant-loop-form

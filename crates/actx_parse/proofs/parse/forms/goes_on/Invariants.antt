@@ -1,5 +1,5 @@
 use Rattle.std.proofs.Common.{◌≡◌, drop}
-use Rattle.actx_ast.specs.ParserOperands.{goes_on, forms_of}
+use Rattle.actx_grammar.specs.ParserOperands.{goes_on, forms_of}
 use Rattle.actx_parse.specs.ParserView.{bounds}
 use Rattle.actx_parse.proofs.parse.forms.goes_on.Given as goal
 

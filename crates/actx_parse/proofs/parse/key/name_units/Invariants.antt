@@ -1,5 +1,5 @@
 use Rattle.std.proofs.Common.{◌≡◌, take}
-use Rattle.actx_ast.specs.Words.{word_units}
+use Rattle.actx_grammar.specs.Words.{word_units}
 use Rattle.actx_parse.proofs.parse.key.name_units.Given as goal
 
 abbrev pub invariant-loop-c : goal.invariant-loop-c

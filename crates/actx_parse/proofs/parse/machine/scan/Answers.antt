@@ -1,6 +1,6 @@
 use Rattle.std.proofs.Common.{◌≡◌, ◌<◌, ◌≤◌, [], ◌∷◌, Some, None, length, option_map, sym, ◌∙◌, ap, arith}
-use Rattle.actx_ast.specs.Parser.{step}
-use Rattle.actx_ast.specs.ParserState.{in_list, program, go, refuse}
+use Rattle.actx_grammar.specs.Parser.{step}
+use Rattle.actx_grammar.specs.ParserState.{in_list, program, go, refuse}
 use Rattle.actx_ast.specs.View.{program_view, stmts_view}
 use Rattle.actx_parse.specs.ParserView.{bounds, mode_view, move_of, stack_view}
 use Rattle.actx_parse.specs.Scan.{stopped}

@@ -1,5 +1,5 @@
 use Rattle.std.proofs.Common.{◌≡◌, drop}
-use Rattle.actx_ast.specs.Parser.{step}
+use Rattle.actx_grammar.specs.Parser.{step}
 use Rattle.actx_lex.specs.Lexemes.{lexemes}
 use Rattle.actx_parse.specs.ParserView.{bounds, mode_view, stack_view}
 use Rattle.actx_parse.specs.Scan.{scan, scan_on}

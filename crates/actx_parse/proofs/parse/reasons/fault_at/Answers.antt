@@ -1,6 +1,6 @@
 use Rattle.std.proofs.Common.{◌≡◌, ◌+◌, ◌<◌, ◌≤◌, true, false, length, refl, sym, ◌∙◌, ap, arith}
 use Rattle.std.specs.Prelude.{take}
-use Rattle.actx_ast.specs.Parser.{unlimited, unlisted}
+use Rattle.actx_grammar.specs.Parser.{unlimited, unlisted}
 use Rattle.actx_lex.specs.Lexemes.{lexemes}
 use Rattle.actx_parse.specs.Scan.{is_stopped, scan}
 use Rattle.actx_parse.proofs.ParseAnswers.{told_of, told_at_end}

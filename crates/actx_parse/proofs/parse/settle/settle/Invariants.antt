@@ -1,5 +1,5 @@
 use Rattle.std.proofs.Common.{◌≡◌, length}
-use Rattle.actx_ast.specs.ParserState.{settle}
+use Rattle.actx_grammar.specs.ParserState.{settle}
 use Rattle.actx_ast.specs.View.{expr_view}
 use Rattle.actx_parse.specs.ParserView.{stack_view}
 use Rattle.actx_parse.proofs.parse.settle.settle.Given as goal

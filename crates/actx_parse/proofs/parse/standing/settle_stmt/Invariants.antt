@@ -1,5 +1,5 @@
 use Rattle.std.proofs.Common.{◌≡◌, length}
-use Rattle.actx_ast.specs.Parser.{settle_stmt}
+use Rattle.actx_grammar.specs.Parser.{settle_stmt}
 use Rattle.actx_ast.specs.View.{stmt_view}
 use Rattle.actx_parse.specs.ParserView.{stack_view}
 use Rattle.actx_parse.proofs.parse.standing.settle_stmt.Given as goal

@@ -1,5 +1,5 @@
 use Rattle.std.proofs.Common.{◌≡◌, length}
-use Rattle.actx_ast.specs.Parser.{to_else}
+use Rattle.actx_grammar.specs.Parser.{to_else}
 use Rattle.actx_ast.specs.View.{stmt_view}
 use Rattle.actx_parse.specs.ParserView.{stack_view}
 use Rattle.actx_parse.proofs.parse.standing.to_else.Given as goal

@@ -1,5 +1,5 @@
 use Rattle.std.proofs.Common.{◌≡◌, length, drop}
-use Rattle.actx_ast.specs.ParserOperands.{same_word}
+use Rattle.actx_grammar.specs.ParserOperands.{same_word}
 use Rattle.actx_parse.proofs.parse.word.is_word.Given as goal
 
 abbrev pub invariant-loop-i : goal.invariant-loop-i

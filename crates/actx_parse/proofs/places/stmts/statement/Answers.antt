@@ -1,7 +1,7 @@
 use Rattle.std.proofs.Common.{◌≡◌, ap, subst, sym, ◌∙◌, rules, map, option_map, List, Result}
 use Rattle.std.specs.Prelude.{OnOk}
 use Rattle.actx_ast.specs.declared.tree.Expr.{the_lemmas}
-use Rattle.actx_ast.specs.Tree as node
+use Rattle.actx_grammar.specs.Tree as node
 use Rattle.actx_ast.specs.View.{catch_of, catcher_view, expr_view, init_view, last_of, maybe_expr, stmt_view, stmts_view}
 use Rattle.actx_parse.specs.Walk.{Walk, stmt}
 use Rattle.actx_parse.specs.WalkWork.{acts}

@@ -1,7 +1,7 @@
 use Rattle.std.proofs.Common.{◌≡◌, List, ℕ, ◌∙◌, ap, sym, not, reverse}
 use Rattle.std.specs.List.{list_any}
 use Rattle.indexmap.specs.IndexSet.{insert_key}
-use Rattle.actx_ast.specs.Static.{is_among, same_name}
+use Rattle.actx_grammar.specs.Static.{is_among, same_name}
 use Rattle.actx_scope.specs.Found.{grown}
 use Rattle.actx_scope.proofs.NameLists.{among_reverse, grown_reverse}
 use Rattle.actx_scope.proofs.bound.Bound.add.Goals as goal

@@ -1,6 +1,6 @@
 use Rattle.std.proofs.Common.{◌≡◌, ◌∷◌, ◌++◌, [], List, ℕ, Some, ap, ◌∙◌, subst, sym}
 use Rattle.std.specs.HashMap.{Updates}
-use Rattle.actx_ast.specs.Static as spec
+use Rattle.actx_grammar.specs.Static as spec
 use Rattle.actx_scope.specs.Tables.{Fits, stacked}
 use Rattle.actx_scope.specs.declared.known.Hidden.{Hidden}
 use Rattle.actx_scope.proofs.Tables.{fits_pushed, stacked_push}

@@ -1,5 +1,5 @@
 use Rattle.std.proofs.Common.{◌≡◌, ◌∷◌, ◌++◌, [], List, drop, ap, ◌∙◌, subst, sym}
-use Rattle.actx_ast.specs.Static.{Declared}
+use Rattle.actx_grammar.specs.Static.{Declared}
 use Rattle.actx_scope.specs.Tables.{Fits, stacked}
 use Rattle.actx_scope.proofs.Tables.{fits_popped, stacked_push}
 use Rattle.actx_scope.proofs.known.Known.forget.Goals as goal

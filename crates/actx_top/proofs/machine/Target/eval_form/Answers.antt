@@ -1,7 +1,7 @@
 use Rattle.std.proofs.Common.{◌∙◌, ap, Some, None, if◌then◌else◌}
 use Rattle.std.specs.Prelude.{◌&&◌}
-use Rattle.actx_ast.specs.declared.side.Side.TheVariants.{Plain}
-use Rattle.actx_ast.specs.ParserOperands.{suits}
+use Rattle.actx_grammar.specs.declared.side.Side.TheVariants.{Plain}
+use Rattle.actx_grammar.specs.ParserOperands.{suits}
 use Rattle.actx_ast.specs.View.{exprs_view}
 use Rattle.actx_top.specs.Machine.{takes, has_form}
 use Rattle.actx_top.specs.MachineView.{frames_in, store_in}

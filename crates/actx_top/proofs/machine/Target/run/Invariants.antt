@@ -1,6 +1,6 @@
 use Rattle.std.proofs.Common.{◌≡◌}
 use Rattle.actx_match.specs.Runs.{run}
-use Rattle.actx_ast.specs.declared.side.Side.TheVariants.{Plain}
+use Rattle.actx_grammar.specs.declared.side.Side.TheVariants.{Plain}
 use Rattle.actx_top.specs.Machine.{step}
 use Rattle.actx_top.specs.MachineView.{state_of}
 use Rattle.actx_top.proofs.machine.Target.run.Given as goal

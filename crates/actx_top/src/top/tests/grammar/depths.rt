@@ -1,7 +1,7 @@
 //! The limits of depth.
 
 use super::{TooDeep, Unexpected, fault_in, repeated};
-use actx_ast::side::Side;
+use actx_grammar::side::Side;
 use std::alloc::Global;
 use std::process::Abort;
 use std::test::Fail;

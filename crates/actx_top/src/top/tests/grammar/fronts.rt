@@ -1,7 +1,7 @@
 //! Programs that end too early: each front of their tokens is a program, or is refused at its end.
 
 use super::{ParseFault, Unexpected, parse_plain, parse_source};
-use actx_ast::side::Side;
+use actx_grammar::side::Side;
 use actx_lex::lex::lex;
 use std::alloc::Global;
 use std::process::Abort;

@@ -1,7 +1,7 @@
 //! Where nodes begin: the number of the first token of each, in preorder, counted by hand.
 
 use super::{parse_plain, parse_source};
-use actx_ast::side::Side;
+use actx_grammar::side::Side;
 use actx_lex::lex::lex;
 use std::alloc::Global;
 use std::process::Abort;

@@ -1,7 +1,7 @@
 //! Plain texts.
 
 use super::{Unexpected, compare, take};
-use actx_ast::side::Side;
+use actx_grammar::side::Side;
 use std::test::Fail;
 
 #[test]

@@ -1,7 +1,7 @@
 //! Texts at the edges of the grammar: which are taken, and the first token with which no program goes on in the others.
 
 use super::{TooMany, Unexpected, compare};
-use actx_ast::side::Side;
+use actx_grammar::side::Side;
 use std::test::Fail;
 
 #[test]

@@ -1,7 +1,7 @@
 //! Texts of users.
 
 use super::{TooMany, Unexpected, compare, take};
-use actx_ast::side::Side;
+use actx_grammar::side::Side;
 use std::test::Fail;
 
 #[test]

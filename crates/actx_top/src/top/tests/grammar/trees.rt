@@ -2,7 +2,7 @@
 
 use super::fronts::fronts;
 use super::{parse_plain, parse_source};
-use actx_ast::side::Side;
+use actx_grammar::side::Side;
 use actx_ast::spell::spell;
 use actx_ast::tree::Program;
 use actx_lex::lex::lex;

@@ -1,5 +1,0 @@
-use Rattle.actx_ast.proofs.NodePlaces.{places}
-use Rattle.actx_ast.proofs.laws.every_node_has_a_place.Goals as goal
-
-pub returns : goal.returns
-returns c = places

@@ -1,5 +1,0 @@
-use Rattle.actx_ast.proofs.NodeOffences.{in_order}
-use Rattle.actx_ast.proofs.laws.offences_are_in_order.Goals as goal
-
-pub returns : goal.returns
-returns c = in_order

@@ -1,5 +1,0 @@
-use Rattle.actx_ast.proofs.ReadyFirst as first
-use Rattle.actx_ast.proofs.laws.refuses_first.Goals as goal
-
-pub returns : goal.returns
-returns c = first.refuses_first

@@ -1,5 +1,0 @@
-use Rattle.actx_ast.proofs.SideNames.{is_pointwise}
-use Rattle.actx_ast.proofs.reserved.is_word.Goals as goal
-
-pub returns : goal.returns
-returns c = is_pointwise c.is_written.result c.args.word.now c.args.text.now c.is_written.ensures

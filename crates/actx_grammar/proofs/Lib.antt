@@ -1,0 +1,2 @@
+pub mod SideNames
+pub mod FreeWords
