@@ -1,15 +1,2 @@
-pub mod ParseStack
-pub mod ParseForms
-pub mod ParseItems
-pub mod ParseSettle
 pub mod ParseScan
-pub mod WalkSteps
-pub mod WalkRows
-pub mod WalkArrows
-pub mod WalkLists
-pub mod WalkProperties
-pub mod WalkAll
 pub mod ParseAnswers
-pub mod WalkGroups
-pub mod WalkPieces
-pub mod WalkForms

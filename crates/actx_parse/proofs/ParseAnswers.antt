@@ -23,11 +23,11 @@ use Rattle.actx_parse.specs.Answers.{ArePlaces, IsTold, RefusesAt, StopsFirst}
 use Rattle.actx_lex.specs.Lexemes.{lexeme_of, lexemes}
 use Rattle.actx_parse.specs.Scan.{scan, is_stopped, told}
 use Rattle.actx_parse.specs.Scan as scanned
-use Rattle.actx_parse.specs.Walk.{places_of}
+use Rattle.actx_places.specs.Walk.{places_of}
 use Rattle.actx_parse.specs.declared.parse.Parsed.{Parsed}
 use Rattle.actx_parse.specs.declared.parse.ParseFault.{ParseFault}
 use Rattle.actx_parse.specs.declared.parse.ParseFault.TheVariants as fault
-use Rattle.actx_parse.proofs.WalkAll.{places_are}
+use Rattle.actx_places.proofs.WalkAll.{places_are}
 use Rattle.actx_parse.proofs.ParseScan.{never_many, refused_of, refused_at_end}
 
 forms_by : (ts : List Token) → AllByRecursion HasForm (kinds_of ts) → AllByRecursion (λ t. HasForm t.kind) (lexemes ts)

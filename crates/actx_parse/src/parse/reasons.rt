@@ -3,12 +3,12 @@
 ghost use Rattle.std.specs.Prelude.{◌≡◌, IfOk};
 ghost use Rattle.actx_grammar.specs.Parser.{limits};
 ghost use Rattle.actx_parse.specs.Answers.{IsTold};
-ghost use Rattle.actx_parse.specs.ParserView.{bounds};
+ghost use Rattle.actx_frames.specs.ParserView.{bounds};
 ghost use Rattle.actx_lex.specs.Lexemes.{lexemes};
 ghost use Rattle.actx_parse.specs.Scan.{is_stopped, scan, stopped};
 
 use super::ParseFault;
-use super::limits::{Rules, unlimited, unlisted};
+use actx_frames::limits::{Rules, unlimited, unlisted};
 use super::machine::{Outcome, scan};
 use actx_grammar::side::Side;
 use actx_data::NoMemory;

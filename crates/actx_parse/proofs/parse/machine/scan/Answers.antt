@@ -2,7 +2,7 @@ use Rattle.std.proofs.Common.{◌≡◌, ◌<◌, ◌≤◌, [], ◌∷◌, Some
 use Rattle.actx_grammar.specs.Parser.{step}
 use Rattle.actx_grammar.specs.ParserState.{in_list, program, go, refuse}
 use Rattle.actx_ast.specs.View.{program_view, stmts_view}
-use Rattle.actx_parse.specs.ParserView.{bounds, mode_view, move_of, stack_view}
+use Rattle.actx_frames.specs.ParserView.{bounds, mode_view, move_of, stack_view}
 use Rattle.actx_parse.specs.Scan.{stopped}
 use Rattle.actx_parse.proofs.ParseScan.{scan_begins, scan_more, scan_ends}
 use Rattle.actx_parse.proofs.parse.machine.scan.Goals as goal

@@ -1,7 +1,7 @@
 use Rattle.std.proofs.Common.{◌≡◌, drop}
 use Rattle.actx_grammar.specs.Parser.{step}
 use Rattle.actx_lex.specs.Lexemes.{lexemes}
-use Rattle.actx_parse.specs.ParserView.{bounds, mode_view, stack_view}
+use Rattle.actx_frames.specs.ParserView.{bounds, mode_view, stack_view}
 use Rattle.actx_parse.specs.Scan.{scan, scan_on}
 use Rattle.actx_parse.proofs.parse.machine.scan.Given as goal
 

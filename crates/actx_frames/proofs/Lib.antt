@@ -1,0 +1,2 @@
+pub mod ParseStack
+pub mod ParseForms

@@ -1,9 +1,0 @@
-use Rattle.std.proofs.Common.{◌≡◌, length, drop, ◌-◌}
-use Rattle.actx_parse.specs.Walk as spec
-use Rattle.actx_parse.proofs.places.walk.Walk.open_arrow.Given as goal
-
-abbrev pub invariant-loop-self : goal.invariant-loop-self
-invariant-loop-self l = spec.open_arrow (spec.rest l.self) l.self ≡ spec.open_arrow (spec.rest l.fn.self) l.fn.self
-
-abbrev pub decreases-loop-self : goal.decreases-loop-self
-decreases-loop-self l = length (spec.rest l.self)

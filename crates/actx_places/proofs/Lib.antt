@@ -1,0 +1,9 @@
+pub mod WalkSteps
+pub mod WalkRows
+pub mod WalkArrows
+pub mod WalkLists
+pub mod WalkProperties
+pub mod WalkAll
+pub mod WalkGroups
+pub mod WalkPieces
+pub mod WalkForms

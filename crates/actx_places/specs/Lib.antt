@@ -1,0 +1,4 @@
+pub mod Walk
+pub mod WalkView
+pub mod WalkProperty
+pub mod WalkWork

@@ -1,0 +1,4 @@
+//! Where the nodes of a program begin in the tokens that spell it.
+#![tactic(auto)]
+
+pub mod places;

@@ -1,0 +1,2 @@
+pub mod ParseItems
+pub mod ParseSettle

@@ -1,0 +1,12 @@
+use Rattle.std.proofs.Common.{◌≡◌, length}
+use Rattle.actx_grammar.specs.Parser.{settle_stmt}
+use Rattle.actx_ast.specs.View.{stmt_view}
+use Rattle.actx_frames.specs.ParserView.{stack_view}
+use Rattle.actx_steps.proofs.standing.settle_stmt.Given as goal
+
+abbrev pub invariant-loop-frame : goal.invariant-loop-frame
+invariant-loop-frame l =
+    settle_stmt (stmt_view l.initial.held.stmt) l.initial.held.reach (stack_view l.initial.stack) ≡ settle_stmt (stmt_view l.held.stmt) l.held.reach (stack_view l.stack)
+
+abbrev pub decreases-loop-frame : goal.decreases-loop-frame
+decreases-loop-frame l = length l.stack
