@@ -11,8 +11,6 @@ mod make_lists;
 mod make_stmts;
 mod order;
 mod pieces;
-#[cfg(test)]
-mod tests;
 
 use crate::tree::{Expr, Program, Stmt};
 use actx_data::{NoMemory, Twin};

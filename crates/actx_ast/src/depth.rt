@@ -9,11 +9,11 @@ ghost use Rattle.actx_ast.specs.View.{catch_of, catcher_view, clause_view, claus
 ghost use Rattle.actx_grammar.specs.declared.operators.Form.TheVariants as Form;
 
 use super::levels::{inside, is_wrapped, left_level, level_of, logic_level, right_level};
-use actx_grammar::operators::Form;
 use super::tree::{
     Catcher, Clause, ConstItem, Expr, ForInit, Function, Key, LetItem, Program, PropKey, Property,
     Stmt,
 };
+use actx_grammar::operators::Form;
 
 /// How deep the program's own tokens go, or 4,294,967,295 where that is less: a node is one level deeper than its parent,
 /// parentheses are a level, and a list goes as deep as the deepest of its parts.
@@ -352,6 +352,3 @@ fn clauses_depth(clauses: &[Clause]) -> u32
     }
     depth
 }
-
-#[cfg(test)]
-mod tests;

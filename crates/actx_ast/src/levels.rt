@@ -6,8 +6,8 @@ ghost use Rattle.actx_grammar.specs.Spell as spec;
 ghost use Rattle.actx_ast.specs.Starts.{start_of};
 ghost use Rattle.actx_ast.specs.View.{expr_view};
 
-use actx_grammar::operators::{BinaryOp, FunctionKind, LogicOp};
 use super::tree::Expr;
+use actx_grammar::operators::{BinaryOp, FunctionKind, LogicOp};
 
 /// The level of an operator of two operands.
 pub fn level_of(op: BinaryOp) -> u8

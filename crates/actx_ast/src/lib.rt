@@ -6,6 +6,4 @@ pub mod depth;
 mod levels;
 pub mod sides;
 pub mod spell;
-#[cfg(test)]
-mod tests;
 pub mod tree;

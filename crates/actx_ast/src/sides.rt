@@ -11,13 +11,15 @@ ghost use Rattle.actx_grammar.specs.declared.side.Side.TheVariants as Side;
 
 mod nodes;
 
-use actx_grammar::forms::{changes, is_declared, is_shape};
-use actx_grammar::names::{are_bindings, is_binding, is_key, is_member_word, is_own_name, is_reference};
-use actx_grammar::side::Side;
 use super::tree::{
     Catcher, Clause, ConstItem, Expr, ForInit, Function, Key, LetItem, Program, PropKey, Property,
     Stmt,
 };
+use actx_grammar::forms::{changes, is_declared, is_shape};
+use actx_grammar::names::{
+    are_bindings, is_binding, is_key, is_member_word, is_own_name, is_reference,
+};
+use actx_grammar::side::Side;
 use nodes::{
     ends_open, has_consts, has_lets, is_body, is_default_last, is_form, is_number, is_text,
     is_written,
@@ -327,6 +329,3 @@ fn are_clauses(side: Side, clauses: &[Clause]) -> bool
 {
     is_default_last(clauses) && is_each_clause(side, clauses)
 }
-
-#[cfg(test)]
-mod tests;

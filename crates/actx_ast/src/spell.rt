@@ -14,13 +14,11 @@ mod loops;
 mod put;
 mod signs;
 mod stmts;
-#[cfg(test)]
-mod tests;
 
-use actx_grammar::operators::Form;
-use actx_grammar::token::{Keyword, Sign, TokenKind};
 use super::tree::{Clause, ConstItem, Expr, Function, LetItem, Program, Property, Stmt};
 use actx_data::NoMemory;
+use actx_grammar::operators::Form;
+use actx_grammar::token::{Keyword, Sign, TokenKind};
 use blocks::clauses;
 use exprs::tree;
 use lists::{more_consts, more_exprs, more_lets, more_properties};

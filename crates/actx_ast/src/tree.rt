@@ -2,9 +2,9 @@
 
 mod drop;
 
+use actx_data::Units;
 use actx_grammar::name::Name;
 use actx_grammar::operators::{BinaryOp, Form, FunctionKind, LogicOp, UnaryOp};
-use actx_data::Units;
 use drop::{Part, run};
 
 /// An expression (ECMA-262, 13).

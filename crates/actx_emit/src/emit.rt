@@ -12,9 +12,9 @@ ghost use Rattle.actx_emit.specs.Reads.{ReadsBack};
 
 use super::text::push_token;
 use actx_ast::spell::spell;
-use actx_grammar::token::{Sign, TokenKind};
 use actx_ast::tree::Program;
 use actx_data::NoMemory;
+use actx_grammar::token::{Sign, TokenKind};
 use std::alloc::Global;
 
 /// The text of a program of the plain side that goes at most 32,768 levels deep: its tokens with a space between two, a LF
@@ -32,8 +32,12 @@ pub fn emit(alloc: Global, plain: &Program) -> Result<Vec<u8>, NoMemory>
     text_of(alloc, plain)
 }
 
-/// The text of any program.
-fn text_of(alloc: Global, program: &Program) -> Result<Vec<u8>, NoMemory>
+/// The text of any program, of either side, as `emit` lays it out.
+///
+/// # Errors
+///
+/// `NoMemory` where memory runs out.
+pub fn text_of(alloc: Global, program: &Program) -> Result<Vec<u8>, NoMemory>
     ensures { IfOk result (λ v. v.items ≡ encode_utf8_all (spec.layout (spell_program (program_view program.now)))) }
 {
     let tokens = spell(alloc, program)?;
@@ -64,6 +68,3 @@ fn gap_after(token: &TokenKind, last: bool) -> char
         _ => { if last { '\n' } else { ' ' } }
     }
 }
-
-#[cfg(test)]
-mod tests;

@@ -4,10 +4,10 @@ ghost use Rattle.std.specs.Prelude.{◌≡◌, ◌++◌, ◌<◌, ◌/◌, ◌%�
 ghost use Rattle.std.specs.Str.{encode_utf8_all};
 ghost use Rattle.actx_emit.specs.Layout as spec;
 
+use actx_data::Units;
 use actx_grammar::name::Name;
 use actx_grammar::token::TokenKind;
 use actx_grammar::words::{keyword_text, sign_text};
-use actx_data::Units;
 use std::alloc::{AllocError, Global};
 
 /// The token's own text, in UTF-8.

@@ -16,10 +16,10 @@ use super::moves::{go_if, need_in};
 use super::stack::Stack;
 use super::state::{Frame, Mode, Step};
 use super::word::is_word;
+use actx_data::{ErrorName, NoMemory};
 use actx_grammar::operators::Form;
 use actx_grammar::side::Side;
 use actx_grammar::token::{Keyword, Sign, TokenKind};
-use actx_data::{ErrorName, NoMemory};
 use std::alloc::Global;
 
 /// The least number of parts of a form.

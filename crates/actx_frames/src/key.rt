@@ -4,10 +4,10 @@ ghost use Rattle.std.specs.Prelude.{◌≡◌, ◌++◌, IfOk, OnOk};
 ghost use Rattle.actx_grammar.specs.Names.{word_of};
 ghost use Rattle.actx_grammar.specs.Words.{keyword_text, units_of, word_units};
 
+use actx_data::{NoMemory, Twin, Units};
 use actx_grammar::name::Name;
 use actx_grammar::token::{Keyword, TokenKind};
 use actx_grammar::words;
-use actx_data::{NoMemory, Twin, Units};
 use std::alloc::Global;
 
 /// One more character, as UTF-16 code units (ECMA-262, 11.1.1).

@@ -10,8 +10,8 @@ ghost use Rattle.actx_frames.specs.ParserView.{bounds, limits_view, stack_view};
 use super::forms::most_parts;
 use super::stack::Stack;
 use super::state::Frame;
-use actx_grammar::side::Side;
 use actx_data::NoMemory;
+use actx_grammar::side::Side;
 
 /// The greatest depth, and how many parameters or arguments a list takes; none where they are put aside.
 #[derive(Clone, Copy, Drop)]

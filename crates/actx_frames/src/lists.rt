@@ -6,9 +6,9 @@ ghost use Rattle.actx_grammar.specs.Parser.{with_stmt, with_clause};
 ghost use Rattle.actx_ast.specs.View.{expr_view, exprs_view, lets_view, let_view, consts_view, const_view, properties_view, property_view, prop_key_view, stmt_view, stmts_view, clauses_view, clause_view};
 ghost use Rattle.actx_frames.specs.ParserView.{maybe_expr_view};
 
-use actx_grammar::name::Name;
 use actx_ast::tree::{Clause, ConstItem, Expr, LetItem, PropKey, Property, Stmt};
 use actx_data::NoMemory;
+use actx_grammar::name::Name;
 
 /// How many expressions a list has.
 #[tactic(auto, using(crate::proofs::ParseStack::how_many))]

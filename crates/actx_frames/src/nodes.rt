@@ -5,10 +5,10 @@ ghost use Rattle.actx_grammar.specs.Tree.{Function as Functional, Await as Await
 ghost use Rattle.actx_ast.specs.View.{expr_view, exprs_view, function_view, key_view, maybe_expr, stmt_view, stmts_view};
 
 use super::state::Operand;
-use actx_grammar::name::Name;
-use actx_grammar::operators::{BinaryOp, FunctionKind, LogicOp, UnaryOp};
 use actx_ast::tree::{Expr, Function, Key, Stmt};
 use actx_data::NoMemory;
+use actx_grammar::name::Name;
+use actx_grammar::operators::{BinaryOp, FunctionKind, LogicOp, UnaryOp};
 use std::alloc::Global;
 use std::cmp::max;
 

@@ -16,11 +16,11 @@ use super::nodes::call;
 use super::stack::Stack;
 use super::state::{Frame, Mode, Operand, Role, Step};
 use super::word::{is_binding, is_built_in};
+use actx_ast::tree::Expr;
+use actx_data::{NoMemory, Twin, Units};
 use actx_grammar::name::Name;
 use actx_grammar::operators::{Form, UnaryOp};
 use actx_grammar::token::{Keyword, Sign, TokenKind};
-use actx_ast::tree::Expr;
-use actx_data::{NoMemory, Twin, Units};
 use std::alloc::Global;
 
 /// An operator before its operand.

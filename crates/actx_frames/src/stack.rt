@@ -6,9 +6,9 @@ ghost use Rattle.actx_grammar.specs.Tree.{Stmts};
 ghost use Rattle.actx_frames.specs.ParserView.{frame_view, head_view, owner_view, role_view, stack_view};
 
 use super::state::{Frame, Head, ListOwner, Role};
+use actx_data::NoMemory;
 use actx_grammar::name::Name;
 use actx_grammar::operators::FunctionKind;
-use actx_data::NoMemory;
 use std::alloc::Global;
 use std::marker::Model;
 

@@ -1,11 +1,11 @@
 //! What the parser holds between two tokens, as a `const` whose items are read so far.
 
-use actx_grammar::name::Name;
-use actx_grammar::operators::{BinaryOp, Form, FunctionKind, LogicOp, UnaryOp};
-use actx_grammar::token::TokenKind;
 use actx_ast::tree::{
     Catcher, Clause, ConstItem, Expr, ForInit, Key, LetItem, PropKey, Property, Stmt,
 };
+use actx_grammar::name::Name;
+use actx_grammar::operators::{BinaryOp, Form, FunctionKind, LogicOp, UnaryOp};
+use actx_grammar::token::TokenKind;
 
 /// An expression, and the depth of its deepest part in the whole text.
 #[derive(Drop)]

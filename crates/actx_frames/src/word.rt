@@ -4,10 +4,10 @@ ghost use Rattle.std.specs.Prelude.{◌≡◌, IfOk};
 ghost use Rattle.actx_grammar.specs.ParserOperands.{is_binding, is_built_in, named, same_word};
 ghost use Rattle.actx_ast.specs.View.{expr_view};
 
-use actx_grammar::name::Name;
-use actx_grammar::side::Side;
 use actx_ast::tree::Expr;
 use actx_data::{NoMemory, Twin};
+use actx_grammar::name::Name;
+use actx_grammar::side::Side;
 use std::alloc::Global;
 
 /// Whether the name is this word of ASCII characters.

@@ -184,6 +184,3 @@ pub fn not_stuck()
 pub fn one_stop()
     ensures { spec.OneStop }
 {}
-
-#[cfg(test)]
-mod tests;

@@ -7,10 +7,10 @@ ghost use Rattle.actx_lex.specs.Lexeme.{Begins};
 
 use super::characters::is_name_part;
 use super::lexeme::Lexeme;
+use actx_data::NoMemory;
 use actx_grammar::keywords::keyword_of;
 use actx_grammar::name::Name;
 use actx_grammar::token::TokenKind;
-use actx_data::NoMemory;
 use std::alloc::Global;
 
 /// The name or reserved word that a text begins with.

@@ -32,6 +32,3 @@ fn byte_at(text: &[u8], index: usize) -> u8
 {
     if index < text.len() { text[index] } else { 0 }
 }
-
-#[cfg(test)]
-mod tests;

@@ -9,8 +9,8 @@ ghost use Rattle.actx_lex.specs.Pieces.{units_in};
 use super::characters::char_at;
 use super::escapes::next_piece;
 use super::lexeme::Lexeme;
-use actx_grammar::token::TokenKind;
 use actx_data::{NoMemory, Units};
+use actx_grammar::token::TokenKind;
 use std::alloc::Global;
 
 /// The text in quotes that a text begins with, or `None` where it has no end or a bad escape.

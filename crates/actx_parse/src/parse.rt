@@ -17,14 +17,14 @@ ghost use Rattle.actx_parse.specs.declared.parse.ParseFault.TheVariants as fault
 mod machine;
 mod reasons;
 
-use actx_frames::limits::{Rules, limits_of};
 use self::machine::{Outcome, scan};
 use self::reasons::fault_at;
-use actx_places::places::places;
-use actx_grammar::side::Side;
 use actx_ast::tree::Program;
 use actx_data::NoMemory;
+use actx_frames::limits::{Rules, limits_of};
+use actx_grammar::side::Side;
 use actx_lex::token::{Token, Tokens};
+use actx_places::places::places;
 use std::alloc::Global;
 use thiserror::Error;
 

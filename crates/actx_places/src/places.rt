@@ -76,7 +76,7 @@ enum Item<'a> {
 ///
 /// `NoMemory` where memory runs out.
 #[tactic(auto, using(crate::proofs::WalkPieces::acts_last, crate::proofs::WalkPieces::weigh_last))]
-pub(crate) fn places<'a>(
+pub fn places<'a>(
     alloc: Global,
     program: &'a Program,
     tokens: &'a [Token],

@@ -4,8 +4,8 @@ ghost use Rattle.std.specs.Prelude.{◌≡◌, [], IfOk, OnOk, length, not};
 ghost use Rattle.actx_grammar.specs.Static.{is_among};
 ghost use Rattle.actx_scope.specs.Found.{grown, outer_part};
 
-use actx_grammar::name::Name;
 use actx_data::{NoMemory, Twin};
+use actx_grammar::name::Name;
 use indexmap::IndexSet;
 use std::alloc::Global;
 use std::marker::Model;

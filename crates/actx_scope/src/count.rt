@@ -4,11 +4,11 @@ ghost use Rattle.std.specs.Prelude.{◌≡◌, ◌+◌, suc, IfOk, length, optio
 ghost use Rattle.actx_grammar.specs.Nodes.{name_nodes, expr_nodes, exprs_nodes, maybe_nodes, key_nodes, prop_key_nodes, properties_nodes, code_nodes, lets_nodes, consts_nodes, init_nodes, stmt_nodes, stmts_nodes, catch_nodes, last_nodes, clauses_nodes};
 ghost use Rattle.actx_ast.specs.View.{expr_view, exprs_view, key_view, prop_key_view, properties_view, function_view, lets_view, consts_view, init_view, stmt_view, stmts_view, catcher_view, clauses_view, maybe_expr};
 
-use actx_grammar::name::Name;
 use actx_ast::tree::{
     Catcher, Clause, ConstItem, Expr, ForInit, Function, Key, LetItem, PropKey, Property, Stmt,
 };
 use actx_data::NoMemory;
+use actx_grammar::name::Name;
 
 /// The next number.
 pub fn after(at: u64) -> Result<u64, NoMemory>

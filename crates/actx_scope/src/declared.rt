@@ -5,9 +5,9 @@ ghost use Rattle.actx_grammar.specs.Static.{declared, lets_declared, consts_decl
 ghost use Rattle.actx_ast.specs.View.{lets_view, consts_view, init_view, stmt_view, stmts_view};
 
 use super::count::{after, expr_end, maybe_end, name_end, stmt_end};
-use actx_grammar::name::Name;
 use actx_ast::tree::{ConstItem, ForInit, LetItem, Stmt};
 use actx_data::{NoMemory, Twin};
+use actx_grammar::name::Name;
 use std::alloc::Global;
 use std::marker::Model;
 

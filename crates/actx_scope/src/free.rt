@@ -8,9 +8,9 @@ ghost use Rattle.actx_scope.specs.States.{state};
 
 use super::link::Link;
 use super::walk::{Walk, walk_function};
-use actx_grammar::name::Name;
 use actx_ast::tree::Function;
 use actx_data::{NoMemory, Twin};
+use actx_grammar::name::Name;
 use indexmap::IndexSet;
 use std::alloc::Global;
 

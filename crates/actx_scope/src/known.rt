@@ -7,8 +7,8 @@ ghost use Rattle.actx_scope.specs.Found.{found, outer_part};
 ghost use Rattle.actx_scope.specs.Tables.{looked_up};
 
 use super::declared::Declared;
-use actx_grammar::name::Name;
 use actx_data::{NoMemory, Twin};
+use actx_grammar::name::Name;
 use indexmap::IndexMap;
 use std::alloc::Global;
 use std::marker::Model;

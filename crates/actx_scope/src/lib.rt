@@ -12,8 +12,6 @@ mod link;
 mod names;
 mod place;
 mod rules;
-#[cfg(test)]
-mod tests;
 mod walk;
 
 pub use fault::CheckFault;

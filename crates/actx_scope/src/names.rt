@@ -3,8 +3,8 @@
 ghost use Rattle.std.specs.Prelude.{◌≡◌, codes};
 ghost use Rattle.actx_grammar.specs.Static.{same_name, is_among, unusable, unbindable, inherited};
 
-use actx_grammar::name::Name;
 use actx_data::Units;
+use actx_grammar::name::Name;
 
 const EVAL: [char; 4] = ['e', 'v', 'a', 'l'];
 

@@ -14,9 +14,9 @@ use super::fault::CheckFault;
 use super::known::{Known, declare_all};
 use super::link::Link;
 use super::names::{is_unbindable, is_unusable};
+use actx_data::{NoMemory, Twin};
 use actx_grammar::name::Name;
 use actx_grammar::operators::FunctionKind;
-use actx_data::{NoMemory, Twin};
 use std::alloc::Global;
 use std::mem::replace;
 

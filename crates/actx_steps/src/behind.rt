@@ -9,6 +9,8 @@ ghost use Rattle.actx_ast.specs.View.{expr_view, key_view};
 ghost use Rattle.actx_frames.specs.ParserView.{bounds, move_of, settled_of, stack_view};
 
 use super::ends::at_whole;
+use actx_ast::tree::{Expr, Key};
+use actx_data::NoMemory;
 use actx_frames::levels::{level_of, logic_level, tighter};
 use actx_frames::limits::{Rules, deeper, fits_deeper, takes_whole};
 use actx_frames::moves::{go_if, need_if};
@@ -18,8 +20,6 @@ use actx_frames::stack::Stack;
 use actx_frames::state::{Frame, Mode, Operand, Step};
 use actx_grammar::operators::{BinaryOp, LogicOp};
 use actx_grammar::token::{Sign, TokenKind};
-use actx_ast::tree::{Expr, Key};
-use actx_data::NoMemory;
 use std::alloc::Global;
 
 /// An operator: its left operand is what stands before it.

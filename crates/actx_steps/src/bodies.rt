@@ -8,6 +8,8 @@ ghost use Rattle.actx_grammar.specs.Tree.{Function as Functional, Try, catch, co
 ghost use Rattle.actx_ast.specs.View.{clauses_view, expr_view, last_of, prop_key_view, properties_view, stmt_view, stmts_view};
 ghost use Rattle.actx_frames.specs.ParserView.{catch_view, frame_view, head_view, move_of, owner_view, role_view, stack_view};
 
+use actx_ast::tree::{Catcher, Clause, Expr, PropKey, Property, Stmt};
+use actx_data::NoMemory;
 use actx_frames::lists::{with_clause, with_property};
 use actx_frames::moves::{ended, have};
 use actx_frames::nodes::{code, function};
@@ -15,8 +17,6 @@ use actx_frames::stack::Stack;
 use actx_frames::state::{Frame, Head, ListOwner, Mode, Operand, Role, Step};
 use actx_grammar::name::Name;
 use actx_grammar::operators::FunctionKind;
-use actx_ast::tree::{Catcher, Clause, Expr, PropKey, Property, Stmt};
-use actx_data::NoMemory;
 use std::alloc::Global;
 
 /// The body of an arrow ends.

@@ -8,6 +8,8 @@ ghost use Rattle.actx_grammar.specs.Tree.{Built, Call};
 ghost use Rattle.actx_ast.specs.View.{consts_view, expr_view, exprs_view, lets_view, properties_view};
 ghost use Rattle.actx_frames.specs.ParserView.{frame_view, items_of_view, move_of, settled_of, stack_view};
 
+use actx_ast::tree::{ConstItem, Expr, ForInit, Key, LetItem, PropKey, Property, Stmt};
+use actx_data::NoMemory;
 use actx_frames::lists::{with_const, with_last, with_let, with_property};
 use actx_frames::moves::{body_in, ended, have, need_in};
 use actx_frames::nodes::{call, returning};
@@ -17,8 +19,6 @@ use actx_frames::stack::Stack;
 use actx_frames::state::{Frame, ItemsOf, Mode, Operand, Step};
 use actx_grammar::operators::{Form, FunctionKind};
 use actx_grammar::token::{Sign, TokenKind};
-use actx_ast::tree::{ConstItem, Expr, ForInit, Key, LetItem, PropKey, Property, Stmt};
-use actx_data::NoMemory;
 use std::alloc::Global;
 use std::cmp::max;
 

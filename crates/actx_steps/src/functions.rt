@@ -6,17 +6,17 @@ ghost use Rattle.actx_grammar.specs.ParserState.{Frame as Held, fits, here, in_v
 ghost use Rattle.actx_frames.specs.ParserView.{bounds, move_of, role_view, stack_view};
 
 use super::ends::at_whole;
+use super::names::one_param;
+use actx_ast::tree::Expr;
+use actx_data::{NoMemory, Twin};
 use actx_frames::limits::{Rules, begins_statement, fits_below, is_source, takes_whole};
 use actx_frames::moves::{go_if, need_if};
-use super::names::one_param;
 use actx_frames::operand::need_on;
 use actx_frames::stack::Stack;
 use actx_frames::state::{Frame, Head, Mode, Operand, Role, Step};
 use actx_frames::word::is_binding;
 use actx_grammar::operators::FunctionKind;
 use actx_grammar::token::{Keyword, Sign, TokenKind};
-use actx_ast::tree::Expr;
-use actx_data::{NoMemory, Twin};
 use std::alloc::Global;
 
 /// The parameters of a function without a name, which is no declaration.

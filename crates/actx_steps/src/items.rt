@@ -9,6 +9,8 @@ ghost use Rattle.actx_ast.specs.View.{consts_view, lets_view};
 ghost use Rattle.actx_frames.specs.ParserView.{bounds, items_of_view, move_of, stack_view};
 
 use super::ends::{end_consts, end_lets};
+use actx_ast::tree::{ConstItem, LetItem};
+use actx_data::{NoMemory, Twin};
 use actx_frames::limits::{Rules, fits_below};
 use actx_frames::lists::with_let;
 use actx_frames::moves::{go_if, need_if, need_in};
@@ -18,8 +20,6 @@ use actx_frames::word::{is_binding, is_word};
 use actx_grammar::name::Name;
 use actx_grammar::side::Side;
 use actx_grammar::token::{Sign, TokenKind};
-use actx_ast::tree::{ConstItem, LetItem};
-use actx_data::{NoMemory, Twin};
 use std::alloc::Global;
 
 /// A token where the name of an item of a `let` is wanted.

@@ -7,14 +7,14 @@ ghost use Rattle.actx_grammar.specs.Tree.{DoWhile};
 ghost use Rattle.actx_ast.specs.View.{expr_view, init_view, stmt_view};
 ghost use Rattle.actx_frames.specs.ParserView.{bounds, frame_view, maybe_expr_view, mode_view, move_of, owner_view, stack_view};
 
+use actx_ast::tree::{Expr, ForInit, Stmt};
+use actx_data::NoMemory;
 use actx_frames::limits::Rules;
 use actx_frames::moves::{body_in, ended, need_in, open_list};
 use actx_frames::operand::need_on;
 use actx_frames::stack::Stack;
 use actx_frames::state::{Frame, ItemsOf, ListOwner, Mode, Step};
 use actx_grammar::token::{Keyword, Sign, TokenKind};
-use actx_ast::tree::{Expr, ForInit, Stmt};
-use actx_data::NoMemory;
 use std::alloc::Global;
 
 /// A token where the parenthesis before an expression is wanted.

@@ -8,6 +8,8 @@ ghost use Rattle.actx_grammar.specs.Tree.{also, none};
 ghost use Rattle.actx_ast.specs.View.{expr_view, exprs_view};
 ghost use Rattle.actx_frames.specs.ParserView.{move_of, stack_view};
 
+use actx_ast::tree::{Expr, Key};
+use actx_data::NoMemory;
 use actx_frames::key::word_of;
 use actx_frames::limits::Rules;
 use actx_frames::moves::need_in;
@@ -18,8 +20,6 @@ use actx_grammar::name::Name;
 use actx_grammar::operators::Form;
 use actx_grammar::side::Side;
 use actx_grammar::token::{Sign, TokenKind};
-use actx_ast::tree::{Expr, Key};
-use actx_data::NoMemory;
 use std::alloc::Global;
 
 /// A member by its name, or the function that `.call` calls.

@@ -7,6 +7,8 @@ ghost use Rattle.actx_grammar.specs.ParserState.{fits, here, in_paren, refuse};
 ghost use Rattle.actx_frames.specs.ParserView.{bounds, frame_view, move_of, stack_view};
 
 use super::behind::at_have;
+use actx_ast::tree::Expr;
+use actx_data::{NoMemory, Twin};
 use actx_frames::limits::{Rules, deeper, fits_below, takes_whole};
 use actx_frames::moves::{go_if, need_if};
 use actx_frames::operand::need_on;
@@ -16,8 +18,6 @@ use actx_frames::word::{is_binding, named};
 use actx_grammar::name::Name;
 use actx_grammar::operators::{BinaryOp, FunctionKind};
 use actx_grammar::token::{Sign, TokenKind};
-use actx_ast::tree::Expr;
-use actx_data::{NoMemory, Twin};
 use std::alloc::Global;
 
 /// The list of one name.

@@ -8,6 +8,8 @@ ghost use Rattle.actx_grammar.specs.Words.{keyword_text, word_units};
 ghost use Rattle.actx_ast.specs.View.{prop_key_view, properties_view};
 ghost use Rattle.actx_frames.specs.ParserView.{bounds, move_of, stack_view};
 
+use actx_ast::tree::{Expr, PropKey, Property};
+use actx_data::{NoMemory, Twin, Units};
 use actx_frames::key::{keyword_units, name_units};
 use actx_frames::limits::{Rules, deeper, fits_below, is_source};
 use actx_frames::lists::with_property;
@@ -19,8 +21,6 @@ use actx_grammar::name::Name;
 use actx_grammar::operators::FunctionKind;
 use actx_grammar::side::Side;
 use actx_grammar::token::{Keyword, Sign, TokenKind};
-use actx_ast::tree::{Expr, PropKey, Property};
-use actx_data::{NoMemory, Twin, Units};
 use std::alloc::Global;
 use std::cmp::max;
 

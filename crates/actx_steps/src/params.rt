@@ -5,6 +5,7 @@ ghost use Rattle.actx_grammar.specs.ParserFunctions.{at_arrow_body, at_arrow_sig
 ghost use Rattle.actx_grammar.specs.ParserState.{Frame as Held, function_head};
 ghost use Rattle.actx_frames.specs.ParserView.{bounds, head_view, move_of, role_view, stack_view};
 
+use actx_data::{NoMemory, Twin};
 use actx_frames::limits::{Rules, deeper, takes_more};
 use actx_frames::moves::{go_if, open_list};
 use actx_frames::operand::need_on;
@@ -14,7 +15,6 @@ use actx_frames::word::is_binding;
 use actx_grammar::name::Name;
 use actx_grammar::operators::FunctionKind;
 use actx_grammar::token::{Sign, TokenKind};
-use actx_data::{NoMemory, Twin};
 use std::alloc::Global;
 use std::cmp::max;
 

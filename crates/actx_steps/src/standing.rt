@@ -8,15 +8,15 @@ ghost use Rattle.actx_ast.specs.View.{expr_view, init_view, maybe_stmt, stmt_vie
 ghost use Rattle.actx_frames.specs.ParserView.{bounds, frame_view, maybe_expr_view, move_of, stack_view};
 ghost use Rattle.actx_steps.specs.StandingView.{branch_of, joined_of, standing_of};
 
+use super::statements::at_start;
+use actx_ast::tree::{Expr, ForInit, Stmt};
+use actx_data::NoMemory;
 use actx_frames::limits::Rules;
 use actx_frames::lists::with_stmt;
 use actx_frames::stack::Stack;
 use actx_frames::state::{Frame, Mode, Operand, Step};
-use super::statements::at_start;
 use actx_grammar::name::Name;
 use actx_grammar::token::{Keyword, TokenKind};
-use actx_ast::tree::{Expr, ForInit, Stmt};
-use actx_data::NoMemory;
 use std::alloc::Global;
 use std::cmp::max;
 

@@ -8,6 +8,8 @@ ghost use Rattle.actx_ast.specs.View.{stmt_view};
 ghost use Rattle.actx_frames.specs.ParserView.{bounds, mode_view, move_of, stack_view};
 
 use super::bodies::{close_list, next_clause};
+use actx_ast::tree::Stmt;
+use actx_data::NoMemory;
 use actx_frames::limits::{Rules, fits, fits_below};
 use actx_frames::moves::{body_in, ended, go_if, open_list};
 use actx_frames::operand::need_on;
@@ -15,8 +17,6 @@ use actx_frames::stack::Stack;
 use actx_frames::state::{Frame, ItemsOf, ListOwner, Mode, Role, Step};
 use actx_grammar::side::Side;
 use actx_grammar::token::{Keyword, Sign, TokenKind};
-use actx_ast::tree::Stmt;
-use actx_data::NoMemory;
 use std::alloc::Global;
 
 /// A statement whose parts stand one level below it.

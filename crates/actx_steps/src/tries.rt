@@ -8,17 +8,17 @@ ghost use Rattle.actx_ast.specs.View.{clauses_view, expr_view, stmt_view, stmts_
 ghost use Rattle.actx_frames.specs.ParserView.{bounds, catch_view, move_of, stack_view};
 
 use super::bodies::tried;
-use actx_frames::limits::Rules;
 use super::loops::at_brace;
+use super::standing::behind_stmt;
+use actx_ast::tree::{Catcher, Clause, Expr, Stmt};
+use actx_data::{NoMemory, Twin};
+use actx_frames::limits::Rules;
 use actx_frames::moves::{ended, go_if, open_list};
 use actx_frames::stack::Stack;
-use super::standing::behind_stmt;
 use actx_frames::state::{ListOwner, Mode, Step};
 use actx_frames::word::is_binding;
 use actx_grammar::name::Name;
 use actx_grammar::token::{Keyword, Sign, TokenKind};
-use actx_ast::tree::{Catcher, Clause, Expr, Stmt};
-use actx_data::{NoMemory, Twin};
 use std::alloc::Global;
 
 /// A token behind the block of a `try`.

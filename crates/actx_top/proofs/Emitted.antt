@@ -17,15 +17,15 @@ use Rattle.actx_laws.proofs.SideReads.{stmts_on}
 use Rattle.actx_laws.proofs.SideSpells.{stmts_said}
 use Rattle.actx_laws.proofs.SpellDeeper.{deeper_stmts}
 use Rattle.actx_laws.proofs.SpellLaws.{shallowest}
-use Rattle.actx_top.specs.Prelude.{prelude}
-use Rattle.actx_top.specs.Low.{p_, program_renamed, followed_by, low}
-use Rattle.actx_top.specs.Related.{NamesAre, no_names, more_names, ExprIs, num_expr, text_expr, undefined_expr, named_expr, binary_expr, member_expr, call_expr, arrow_expr, log_expr, variable_expr, options_expr, ExprsAre, no_exprs, more_exprs, PropertiesAre, no_properties_are, more_properties, ItemsAre, no_items_are, more_items, StmtIs, const_stmt, value_stmt, return_stmt, return_nothing_stmt, StmtsAre, no_stmts, more_stmts}
+use Rattle.actx_rules.specs.Prelude.{prelude}
+use Rattle.actx_rules.specs.Low.{p_, program_renamed, followed_by, low}
+use Rattle.actx_rules.specs.Related.{NamesAre, no_names, more_names, ExprIs, num_expr, text_expr, undefined_expr, named_expr, binary_expr, member_expr, call_expr, arrow_expr, log_expr, variable_expr, options_expr, ExprsAre, no_exprs, more_exprs, PropertiesAre, no_properties_are, more_properties, ItemsAre, no_items_are, more_items, StmtIs, const_stmt, value_stmt, return_stmt, return_nothing_stmt, StmtsAre, no_stmts, more_stmts}
 use Rattle.actx_lex.specs.Lexemes.{lexemes}
 use Rattle.actx_top.specs.Accepts.{Takes}
-use Rattle.actx_top.specs.Taken.{IsTaken}
-use Rattle.actx_top.proofs.EmittedNames.{binding_renamed, reference_renamed, bindings_renamed}
-use Rattle.actx_top.proofs.EmittedPrelude.{prelude_on, prelude_deep, variable_named}
-use Rattle.actx_top.proofs.Same.Image.{program_image}
+use Rattle.actx_rules.specs.Taken.{IsTaken}
+use Rattle.actx_rules.proofs.EmittedNames.{binding_renamed, reference_renamed, bindings_renamed}
+use Rattle.actx_rules.proofs.EmittedPrelude.{prelude_on, prelude_deep, variable_named}
+use Rattle.actx_rules.proofs.Same.Image.{program_image}
 use Rattle.std.proofs.lemmas.List.Elements.{All-nil, All-cons, All-head, All-tail}
 
 -- THE SIDE

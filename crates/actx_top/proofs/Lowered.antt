@@ -6,7 +6,7 @@ use Rattle.actx_ast.specs.declared.tree.Expr.{Expr}
 use Rattle.actx_ast.specs.declared.tree.ConstItem.{ConstItem}
 use Rattle.actx_ast.specs.declared.tree.Property.{Property}
 use Rattle.actx_ast.specs.declared.tree.Stmt.{Stmt}
-use Rattle.actx_top.specs.Low.{p_, renamed, all_renamed, prop_key_renamed, properties_renamed, items_renamed, stmt_renamed, program_renamed, followed_by}
+use Rattle.actx_rules.specs.Low.{p_, renamed, all_renamed, prop_key_renamed, properties_renamed, items_renamed, stmt_renamed, program_renamed, followed_by}
 
 pub exprs_each : (es : List Expr) → exprs_of (map (λ e. renamed (expr_view e)) es) ≡ all_renamed (exprs_view es)
 exprs_each [] = refl

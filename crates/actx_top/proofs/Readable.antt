@@ -5,9 +5,9 @@ use Rattle.actx_emit.proofs.ReadBack.{printed_reads_back}
 use Rattle.actx_lex.specs.Lexemes.{lexemes}
 use Rattle.actx_top.specs.Accepts.{Takes, ReadsPlain}
 use Rattle.actx_top.specs.Headline.{emitted, Headline}
-use Rattle.actx_top.specs.Low.{low}
+use Rattle.actx_rules.specs.Low.{low}
 use Rattle.actx_top.proofs.Emitted.{low_on, low_deep}
-use Rattle.actx_top.proofs.Whole.{same}
+use Rattle.actx_rules.proofs.Whole.{same}
 
 pub emitted_reads : (text : List ℕ) (p : Stmts) → Takes text p → ReadsPlain (emitted p) (low p)
 emitted_reads text p t =

@@ -20,7 +20,7 @@ use Rattle.actx_lex.specs.Lexical.{NotText, Stuck, Tokens, kinds_of}
 use Rattle.actx_lex.specs.Lexemes.{lexeme_of, lexemes}
 use Rattle.actx_parse.specs.Answers.{ArePlaces}
 use Rattle.actx_top.specs.Refusals.{byte_of, IsByteOf, NoProgram, Offends, Waits, not_utf8, bad_token, bad_number, is_unexpected, is_too_deep, are_too_many, not_declared, bound_twice, is_reserved, is_misplaced, not_yet, Refuses, too_long, within}
-use Rattle.actx_top.specs.Taken.{first_untaken}
+use Rattle.actx_rules.specs.Taken.{first_untaken}
 use Rattle.actx_top.proofs.Placed.{offence_node, node_begins}
 use Rattle.actx_top.proofs.Untaken.{untaken_node}
 

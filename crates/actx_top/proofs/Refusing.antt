@@ -16,7 +16,7 @@ use Rattle.actx_lex.specs.Lexemes.{lexemes}
 use Rattle.actx_top.specs.Accepts.{Accepts, Takes, ReadsPlain}
 use Rattle.actx_top.specs.Faults.{Says}
 use Rattle.actx_top.specs.Refusals.{NoProgram, Offends, Waits, Cause, not_utf8, bad_token, bad_number, is_unexpected, is_too_deep, are_too_many, not_declared, bound_twice, is_reserved, is_misplaced, not_yet, Refuses, RefusedAt, too_long, within}
-use Rattle.actx_top.specs.Taken.{first_untaken, IsTaken}
+use Rattle.actx_rules.specs.Taken.{first_untaken, IsTaken}
 use Rattle.actx_top.specs.declared.read.TextFault.{TextFault}
 use Rattle.actx_top.specs.declared.read.TextFault.TheVariants as f
 

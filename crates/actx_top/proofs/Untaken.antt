@@ -7,8 +7,8 @@ use Rattle.actx_grammar.specs.Grammar.{count}
 use Rattle.actx_grammar.specs.Nodes.{expr_nodes, exprs_nodes, maybe_nodes, key_nodes, prop_key_nodes, properties_nodes, consts_nodes, stmt_nodes, stmts_nodes}
 use Rattle.actx_grammar.specs.Static.{is_among}
 use Rattle.actx_grammar.specs.Tree.{Expr, Num, Text, Undefined, Named, Binary, Member, Call, Object, Function, Built, Exprs, none, also, MaybeExpr, no_expr, some_expr, Key, Dot, Index, PropKey, Fixed, Computed, Properties, no_properties, property, code, ConstItems, no_consts, const_item, Stmt, Const, Value, Return, Stmts, end, next}
-use Rattle.actx_top.specs.State.{or_else}
-use Rattle.actx_top.specs.Taken.{member_names, longest_text, is_operator, unless, untaken_key, untaken_prop_key, untaken, untaken_options, untaken_literal, untaken_list, untaken_properties, untaken_items, untaken_value, untaken_stmt, untaken_stmts, first_untaken}
+use Rattle.actx_rules.specs.State.{or_else}
+use Rattle.actx_rules.specs.Taken.{member_names, longest_text, is_operator, unless, untaken_key, untaken_prop_key, untaken, untaken_options, untaken_literal, untaken_list, untaken_properties, untaken_items, untaken_value, untaken_stmt, untaken_stmts, first_untaken}
 
 -- one of k nodes from n on, where there is one
 abbrev Inside : ℕ → ℕ → Option ℕ → Type 0

@@ -7,7 +7,7 @@ use Rattle.actx_grammar.specs.Tree.{Stmts}
 use Rattle.actx_lex.specs.declared.token.Token.{Token}
 use Rattle.actx_lex.specs.Lexical.{Tokens}
 use Rattle.actx_lex.specs.Lexemes.{lexemes}
-use Rattle.actx_top.specs.Taken.{IsTaken}
+use Rattle.actx_rules.specs.Taken.{IsTaken}
 
 -- the greatest number of bytes of a source text
 abbrev pub longest_source : ℕ

@@ -11,16 +11,16 @@ use Rattle.actx_data.specs.declared.end.End.TheVariants.{Going, Ended, Threw, Le
 use Rattle.actx_data.specs.declared.shown.Shown.{Shown}
 use Rattle.actx_data.specs.declared.shown.Shown.TheVariants as h
 use Rattle.actx_data.specs.declared.trace.TraceEvent.{TraceEvent}
-use Rattle.actx_top.specs.Texts.{same_text}
+use Rattle.actx_rules.specs.Texts.{same_text}
 use Rattle.actx_grammar.specs.Tree.{Stmts}
 use Rattle.actx_top.specs.Headline.{emitted}
-use Rattle.actx_top.specs.Low.{low}
+use Rattle.actx_rules.specs.Low.{low}
 use Rattle.actx_top.specs.Refusals.{RefusedAt}
 use Rattle.actx_top.specs.declared.mode.Mode.{Mode}
 use Rattle.actx_top.specs.declared.mode.Mode.TheVariants.{Lower, Run}
-use Rattle.actx_top.specs.Operators.{truth_text}
-use Rattle.actx_top.specs.Properties.{error_text}
-use Rattle.actx_top.specs.Meaning.{target_shows, lines_of}
+use Rattle.actx_rules.specs.Operators.{truth_text}
+use Rattle.actx_rules.specs.Properties.{error_text}
+use Rattle.actx_rules.specs.Meaning.{target_shows, lines_of}
 
 -- WORDS: a mode, and a file whose name doesn't begin with -
 abbrev pub begins_with_dash : List ℕ → Bool

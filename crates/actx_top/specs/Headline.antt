@@ -9,8 +9,8 @@ use Rattle.actx_top.specs.Accepts.{Takes, ReadsPlain}
 use Rattle.actx_emit.specs.Layout.{layout}
 use Rattle.actx_grammar.specs.Spell.{spell_program}
 use Rattle.actx_grammar.specs.Tree.{Stmts}
-use Rattle.actx_top.specs.Low.{low, OwnPart}
-use Rattle.actx_top.specs.Meaning.{Same}
+use Rattle.actx_rules.specs.Low.{low, OwnPart}
+use Rattle.actx_rules.specs.Meaning.{Same}
 
 -- the text that is emitted for a program
 abbrev pub emitted : Stmts → List ℕ

@@ -12,7 +12,7 @@ use Rattle.actx_lex.specs.Lexical.{NotText, Stuck, Tokens}
 use Rattle.actx_lex.specs.Lexemes.{lexemes}
 use Rattle.actx_lex.specs.Places.{IsPlace}
 use Rattle.actx_top.specs.Accepts.{longest_source, Accepts}
-use Rattle.actx_top.specs.Taken.{first_untaken}
+use Rattle.actx_rules.specs.Taken.{first_untaken}
 
 -- BYTES
 -- the first byte of the token with this number, or the text's end where there is none

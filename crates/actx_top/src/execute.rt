@@ -6,16 +6,16 @@ ghost use Rattle.actx_ast.specs.View.{program_view};
 ghost use Rattle.actx_top.specs.Answers.{most_steps, run_shows};
 ghost use Rattle.actx_top.specs.Ending.{Ends};
 ghost use Rattle.actx_top.specs.Headline.{emitted};
-ghost use Rattle.actx_top.specs.Low.{low};
-ghost use Rattle.actx_top.specs.Meaning.{target_shows};
+ghost use Rattle.actx_rules.specs.Low.{low};
+ghost use Rattle.actx_rules.specs.Meaning.{target_shows};
 
 use crate::lower::lower;
-use crate::machine::Target;
 use crate::read::read_back;
 use crate::render::render;
 use actx_ast::tree::Program;
 use actx_data::{End, NoMemory, Twin};
 use actx_emit::emit::emit;
+use actx_target::machine::Target;
 use std::alloc::Global;
 
 /// What a run has printed, and where it stands.

@@ -3,14 +3,14 @@
 ghost use Rattle.std.specs.Prelude.{◌≡◌, IfOk, option_map};
 ghost use Rattle.actx_ast.specs.View.{expr_view, maybe_expr, exprs_view, const_view, consts_view, function_view, key_view, prop_key_view, property_view, properties_view, stmt_view, stmts_view, program_view};
 ghost use Rattle.actx_grammar.specs.Tree.{Named};
-ghost use Rattle.actx_top.specs.Prelude.{name_variable};
-ghost use Rattle.actx_top.specs.Low.{p_, names_renamed, own_renamed, form_emitted, renamed, key_renamed, prop_key_renamed, code_renamed, value_renamed, all_renamed, properties_renamed, items_renamed, stmt_renamed, program_renamed, low};
+ghost use Rattle.actx_rules.specs.Prelude.{name_variable};
+ghost use Rattle.actx_rules.specs.Low.{p_, names_renamed, own_renamed, form_emitted, renamed, key_renamed, prop_key_renamed, code_renamed, value_renamed, all_renamed, properties_renamed, items_renamed, stmt_renamed, program_renamed, low};
 
-use crate::prelude::prelude;
-use actx_grammar::name::Name;
-use actx_grammar::operators::Form;
 use actx_ast::tree::{ConstItem, Expr, Function, Key, Program, PropKey, Property, Stmt};
 use actx_data::{NoMemory, Twin};
+use actx_grammar::name::Name;
+use actx_grammar::operators::Form;
+use actx_prelude::prelude::prelude;
 use std::alloc::Global;
 
 /// A name of the program as it is emitted: with `p_` before it.

@@ -13,13 +13,13 @@ ghost use Rattle.actx_parse.specs.Answers.{ArePlaces};
 ghost use Rattle.actx_top.specs.Accepts.{Takes, ReadsPlain};
 ghost use Rattle.actx_top.specs.Faults.{Says};
 ghost use Rattle.actx_top.specs.Refusals.{byte_of, IsByteOf, Refuses};
-ghost use Rattle.actx_top.specs.Taken.{IsTaken};
+ghost use Rattle.actx_rules.specs.Taken.{IsTaken};
 ghost use Rattle.actx_top.specs.declared.read.TextFault.TheVariants as fault;
 
 use crate::taken::{Stop, all_taken};
-use actx_grammar::side::Side;
 use actx_ast::tree::Program;
 use actx_data::NoMemory;
+use actx_grammar::side::Side;
 use actx_lex::lex::{LexFault, lex};
 use actx_lex::lines::Place;
 use actx_lex::place::place;

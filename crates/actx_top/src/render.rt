@@ -1,7 +1,7 @@
 //! The lines of a trace as they are written.
 
 ghost use Rattle.std.specs.Prelude.{◌≡◌, ◌++◌, IfOk, OnOk};
-ghost use Rattle.actx_top.specs.Meaning.{line_bytes, event_bytes, lines_of};
+ghost use Rattle.actx_rules.specs.Meaning.{line_bytes, event_bytes, lines_of};
 
 use actx_data::{NoMemory, TraceEvent, Units};
 use std::alloc::Global;

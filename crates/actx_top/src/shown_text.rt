@@ -3,7 +3,7 @@
 ghost use Rattle.std.specs.Prelude.{◌≡◌, IfOk, string_bytes};
 ghost use Rattle.json.specs.Print.{quoted};
 ghost use Rattle.actx_top.specs.Answers.{shown_text, text_shown};
-ghost use Rattle.actx_top.specs.Properties.{error_text};
+ghost use Rattle.actx_rules.specs.Properties.{error_text};
 
 use actx_data::{ErrorName, NoMemory, Shown, Units};
 use serde_json::Value;

@@ -7,14 +7,14 @@ ghost use Rattle.actx_grammar.specs.Static.{is_among};
 ghost use Rattle.actx_grammar.specs.Tree as t;
 ghost use Rattle.actx_ast.specs.View.{expr_view, exprs_view, key_view, prop_key_view, property_view, properties_view, const_view, consts_view, function_view, maybe_expr, stmt_view, stmts_view, program_view};
 ghost use Rattle.actx_top.specs.Faults.{StopsAt};
-ghost use Rattle.actx_top.specs.State.{or_else};
-ghost use Rattle.actx_top.specs.Taken as spec;
+ghost use Rattle.actx_rules.specs.State.{or_else};
+ghost use Rattle.actx_rules.specs.Taken as spec;
 
-use crate::machine::count;
-use crate::word::is_word;
+use actx_ast::tree::{ConstItem, Expr, Function, Key, Program, PropKey, Property, Stmt};
 use actx_grammar::name::Name;
 use actx_grammar::operators::{BinaryOp, Form, FunctionKind};
-use actx_ast::tree::{ConstItem, Expr, Function, Key, Program, PropKey, Property, Stmt};
+use actx_target::machine::count;
+use actx_target::word::is_word;
 
 /// The greatest number of units of a text.
 const LONGEST_TEXT: usize = 1_048_576;
@@ -150,7 +150,7 @@ fn literal_taken(n: u64, e: &Expr) -> Result<u64, Stop>
 }
 
 /// A variable's constructor with its options.
-#[tactic(auto, using(crate::proofs::Forms::two_options))]
+#[tactic(auto, using(crate::proofs::Options::two_options))]
 #[cycle(taken)]
 fn variable_taken(n: u64, parts: &[Expr]) -> Result<u64, Stop>
     ensures taken { IfOk result (λ m. (spec.untaken_options n (exprs_view parts.now) ≡ None) × (m ≡ n + suc (exprs_nodes (exprs_view parts.now)))) }

@@ -8,9 +8,9 @@ ghost use Rattle.actx_top.specs.Accepts.{Takes};
 ghost use Rattle.actx_top.specs.Answers.{begins_with_dash, mode_named, command_of, file_of, run_shows, status_of, status_in, output_in, Did, Wrote, TellsThrow, TellsRefusal, Explains};
 ghost use Rattle.actx_top.specs.Faults.{Says};
 ghost use Rattle.actx_top.specs.Headline.{IsLowered, Matches};
-ghost use Rattle.actx_top.specs.Low.{low};
+ghost use Rattle.actx_rules.specs.Low.{low};
 ghost use Rattle.actx_top.specs.declared.read.TextFault.TheVariants as fault;
-ghost use Rattle.actx_top.specs.Meaning.{lines_of};
+ghost use Rattle.actx_rules.specs.Meaning.{lines_of};
 
 use crate::execute::{Run, emitted, execute};
 use crate::fault::{Fault, tell};
@@ -299,6 +299,3 @@ pub fn actx<C: Cabinet, O: Sink, F: Sink>(
         None => tell(alloc, faults, Fault::BadWords),
     }
 }
-
-#[cfg(test)]
-mod tests;

@@ -6,9 +6,9 @@ ghost use Rattle.actx_grammar.specs.Tree as t;
 ghost use Rattle.actx_ast.specs.View.{expr_view, function_view, key_view, maybe_expr, prop_key_view};
 
 use super::done::{Copied, take_boxed_expr, take_exprs, take_properties, take_stmts};
-use actx_grammar::name::Name;
 use crate::tree::{Expr, Function, Key, PropKey};
 use actx_data::{NoMemory, Twin};
+use actx_grammar::name::Name;
 use std::alloc::Global;
 
 pub(super) fn copy_names(alloc: Global, names: &[Name]) -> Result<Vec<Name>, NoMemory>

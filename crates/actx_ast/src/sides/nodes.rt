@@ -9,11 +9,11 @@ ghost use Rattle.actx_ast.specs.View.{clause_view, clauses_view, consts_view, ex
 ghost use Rattle.actx_grammar.specs.Words.{HasForm, greatest_number};
 ghost use Rattle.actx_grammar.specs.declared.token.TokenKind.TheVariants as TokenKind;
 
+use crate::tree::{Clause, ConstItem, Expr, LetItem, Stmt};
+use actx_data::Units;
 use actx_grammar::forms::{has_words, suits};
 use actx_grammar::operators::Form;
 use actx_grammar::side::Side;
-use crate::tree::{Clause, ConstItem, Expr, LetItem, Stmt};
-use actx_data::Units;
 
 /// The greatest number that is written (ECMA-262, 21.1.2.6).
 const GREATEST: u64 = 9_007_199_254_740_991;

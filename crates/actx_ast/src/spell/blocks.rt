@@ -10,9 +10,9 @@ ghost use Rattle.actx_ast.specs.View.{catch_of, catcher_view, clause_view, claus
 use super::calls::block;
 use super::loops::headed;
 use super::{Work, keyword, mark, push, sign};
-use actx_grammar::token::{Keyword, Sign, TokenKind};
 use crate::tree::{Catcher, Clause, Expr, Stmt};
 use actx_data::{NoMemory, Twin};
+use actx_grammar::token::{Keyword, Sign, TokenKind};
 use std::alloc::Global;
 
 /// `try { } catch { }`, where there is a `catch`.

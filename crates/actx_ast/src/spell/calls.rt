@@ -12,10 +12,10 @@ ghost use Rattle.actx_ast.specs.View.{expr_view, exprs_view, function_view, prop
 use super::lists::{arguments, list_properties};
 use super::put::word;
 use super::{Work, mark, push, sign};
-use actx_grammar::operators::Form;
-use actx_grammar::token::Sign;
 use crate::tree::{Expr, Function, Property, Stmt};
 use actx_data::NoMemory;
+use actx_grammar::operators::Form;
+use actx_grammar::token::Sign;
 use std::alloc::Global;
 
 /// `callee ( args )`

@@ -13,12 +13,12 @@ use super::calls::{call, form_call, function, object};
 use super::put::word;
 use super::signs::{bump_sign, change_sign, logic_sign, sign_of, unary_word};
 use super::{Work, keyword, mark, push, sign};
-use actx_grammar::keywords::word_token;
 use crate::levels::{is_wrapped, left_level, level_of, logic_level, right_level};
-use actx_grammar::name::Name;
-use actx_grammar::token::{Keyword, Sign, TokenKind};
 use crate::tree::{Expr, Key};
 use actx_data::{NoMemory, Twin};
+use actx_grammar::keywords::word_token;
+use actx_grammar::name::Name;
+use actx_grammar::token::{Keyword, Sign, TokenKind};
 use std::alloc::Global;
 
 /// Whether an expression stands in parentheses.

@@ -9,9 +9,9 @@ ghost use Rattle.actx_ast.specs.View.{const_view, consts_view, expr_view, exprs_
 
 use super::exprs::in_brackets;
 use super::{Work, mark, push, sign};
-use actx_grammar::token::{Sign, TokenKind};
 use crate::tree::{ConstItem, Expr, LetItem, PropKey, Property};
 use actx_data::{NoMemory, Twin};
+use actx_grammar::token::{Sign, TokenKind};
 use std::alloc::Global;
 
 /// Expressions in parentheses.

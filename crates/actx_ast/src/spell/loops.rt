@@ -11,10 +11,10 @@ ghost use Rattle.actx_ast.specs.View.{expr_view, init_view, maybe_expr, stmt_vie
 use super::lists::{list_consts, list_lets};
 use super::put::word;
 use super::{Work, keyword, mark, push, sign};
-use actx_grammar::name::Name;
-use actx_grammar::token::{Keyword, Sign, TokenKind};
 use crate::tree::{Expr, ForInit, Stmt};
 use actx_data::{NoMemory, Twin};
+use actx_grammar::name::Name;
+use actx_grammar::token::{Keyword, Sign, TokenKind};
 use std::alloc::Global;
 
 /// `while ( test )` and its like.

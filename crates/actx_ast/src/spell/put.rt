@@ -4,11 +4,11 @@ ghost use Rattle.std.specs.Prelude.{◌≡◌, ◌++◌, ◌∷◌, [], List, �
 ghost use Rattle.actx_grammar.specs.Forms.{error_text, form_words};
 ghost use Rattle.actx_grammar.specs.Spell.{own_name, spell_head, spell_more_names, spell_names, spell_params};
 
+use crate::tree::Function;
+use actx_data::{ErrorName, NoMemory, Twin};
 use actx_grammar::name::Name;
 use actx_grammar::operators::{Form, FunctionKind};
 use actx_grammar::token::{Keyword, Sign, TokenKind};
-use crate::tree::Function;
-use actx_data::{ErrorName, NoMemory, Twin};
 use std::alloc::Global;
 
 pub(super) fn put(out: &mut Vec<TokenKind>, token: TokenKind) -> Result<(), NoMemory>

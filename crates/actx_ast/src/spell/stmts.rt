@@ -13,9 +13,9 @@ use super::calls::{block, function};
 use super::lists::{list_consts, list_lets};
 use super::loops::{do_while, for_await, for_loop, for_of, headed_body, if_else};
 use super::{Work, keyword, push, sign};
-use actx_grammar::token::{Keyword, Sign, TokenKind};
 use crate::tree::{ConstItem, Expr, LetItem, Stmt};
 use actx_data::NoMemory;
+use actx_grammar::token::{Keyword, Sign, TokenKind};
 use std::alloc::Global;
 
 #[tactic(auto, using(std::proofs::Common::append_assoc))]

@@ -9,35 +9,37 @@ ghost use Rattle.actx_steps.specs.StandingView.{standing_of};
 ghost use Rattle.actx_lex.specs.Lexemes.{lexemes};
 ghost use Rattle.actx_parse.specs.Scan.{scan, scan_of};
 
-use actx_steps::behind::{at_have, at_member, at_operator};
-use actx_steps::ends::at_whole;
+use actx_ast::tree::{Program, Stmt};
+use actx_data::NoMemory;
 use actx_frames::forms::at_words;
-use actx_steps::functions::{at_async, at_async_start, at_function, at_function_name, at_yield};
-use actx_steps::items::{at_const_behind, at_const_name, at_let_behind, at_let_name};
 use actx_frames::limits::Rules;
 use actx_frames::lists::with_stmt;
-use actx_steps::loops::{at_brace, at_do_end, at_for, at_for_test, at_for_update, at_open, at_paren};
+use actx_frames::operand::{at_bump_name, at_need};
+use actx_frames::stack::Stack;
+use actx_frames::state::{Frame, ListOwner, Mode, Operand, Step};
+use actx_grammar::token::TokenKind;
+use actx_lex::token::Token;
+use actx_steps::behind::{at_have, at_member, at_operator};
+use actx_steps::ends::at_whole;
+use actx_steps::functions::{at_async, at_async_start, at_function, at_function_name, at_yield};
+use actx_steps::items::{at_const_behind, at_const_name, at_let_behind, at_let_name};
+use actx_steps::loops::{
+    at_brace, at_do_end, at_for, at_for_test, at_for_update, at_open, at_paren,
+};
 use actx_steps::members::{at_call, at_member_name};
 use actx_steps::names::{at_closed, at_first, at_name, at_opened};
 use actx_steps::objects::{
     at_key, at_method, at_method_key, behind_async, behind_key, behind_key_name, behind_property,
 };
-use actx_frames::operand::{at_bump_name, at_need};
 use actx_steps::params::{
     at_arrow_body, at_arrow_sign, at_body_open, at_param, at_params_open, behind_param,
 };
-use actx_frames::stack::Stack;
 use actx_steps::standing::{Standing, behind_stmt, settle_stmt};
-use actx_frames::state::{Frame, ListOwner, Mode, Operand, Step};
 use actx_steps::statements::{at_body_start, at_jump, at_return, at_start, at_throw};
 use actx_steps::tries::{
     at_case, at_case_colon, at_catch, at_catch_close, at_catch_name, at_catch_open, at_clause,
     at_finally, at_switch, try_alone,
 };
-use actx_grammar::token::TokenKind;
-use actx_ast::tree::{Program, Stmt};
-use actx_data::NoMemory;
-use actx_lex::token::Token;
 use std::alloc::Global;
 
 /// What the tokens come to: a program, or the number of the first one that none goes on with.

@@ -8,10 +8,10 @@ ghost use Rattle.actx_lex.specs.Lexemes.{lexemes};
 ghost use Rattle.actx_parse.specs.Scan.{is_stopped, scan, stopped};
 
 use super::ParseFault;
-use actx_frames::limits::{Rules, unlimited, unlisted};
 use super::machine::{Outcome, scan};
-use actx_grammar::side::Side;
 use actx_data::NoMemory;
+use actx_frames::limits::{Rules, unlimited, unlisted};
+use actx_grammar::side::Side;
 use actx_lex::token::Token;
 use std::alloc::Global;
 

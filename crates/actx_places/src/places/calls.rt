@@ -11,9 +11,9 @@ ghost use Rattle.actx_places.specs.WalkWork.{acts, weigh};
 use super::exprs::left;
 use super::walk::Walk;
 use super::{Item, Manner, push};
-use actx_grammar::operators::Form;
 use actx_ast::tree::Expr;
 use actx_data::NoMemory;
+use actx_grammar::operators::Form;
 
 /// A call, with so many tokens between callee and arguments.
 #[tactic(auto, using(crate::proofs::WalkPieces::acts_last))]

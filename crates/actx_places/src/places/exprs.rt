@@ -13,10 +13,10 @@ use super::functions::{function_expr, method};
 use super::lists::properties;
 use super::walk::Walk;
 use super::{Item, Manner, push};
-use actx_grammar::operators::Form;
-use actx_grammar::token::Sign;
 use actx_ast::tree::{Expr, Key, Property};
 use actx_data::NoMemory;
+use actx_grammar::operators::Form;
+use actx_grammar::token::Sign;
 
 /// An expression with its parentheses.
 #[tactic(auto, using(crate::proofs::WalkPieces::acts_last))]

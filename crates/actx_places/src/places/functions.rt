@@ -11,10 +11,10 @@ use super::exprs::expr;
 use super::stmts::braces;
 use super::walk::Walk;
 use super::{Item, push};
-use actx_grammar::operators::FunctionKind;
-use actx_grammar::token::Sign;
 use actx_ast::tree::{Expr, Function, Stmt};
 use actx_data::NoMemory;
+use actx_grammar::operators::FunctionKind;
+use actx_grammar::token::Sign;
 
 /// A function expression.
 #[tactic(auto, using(crate::proofs::WalkPieces::acts_last))]

@@ -11,10 +11,10 @@ ghost use Rattle.actx_places.specs.WalkWork.{acts, weigh};
 use super::exprs::{bracketed, expr, key_word};
 use super::walk::Walk;
 use super::{Item, Manner, push};
-use actx_grammar::operators::FunctionKind;
-use actx_grammar::token::Sign;
 use actx_ast::tree::{ConstItem, Expr, LetItem, PropKey, Property};
 use actx_data::NoMemory;
+use actx_grammar::operators::FunctionKind;
+use actx_grammar::token::Sign;
 
 /// Each with a comma before it.
 pub(super) fn more_exprs<'a>(

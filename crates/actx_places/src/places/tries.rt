@@ -11,9 +11,9 @@ use super::exprs::expr;
 use super::stmts::braces;
 use super::walk::Walk;
 use super::{Item, push};
-use actx_grammar::name::Name;
 use actx_ast::tree::{Catcher, Clause, Expr, Stmt};
 use actx_data::NoMemory;
+use actx_grammar::name::Name;
 
 #[tactic(auto, using(crate::proofs::WalkPieces::acts_last))]
 pub(super) fn tried<'a>(

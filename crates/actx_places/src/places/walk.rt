@@ -5,10 +5,10 @@ ghost use Rattle.actx_lex.specs.Lexemes.{lexemes};
 ghost use Rattle.actx_places.specs.Walk as spec;
 
 use super::groups::{Group, Groups};
+use actx_data::NoMemory;
 use actx_grammar::name::Name;
 use actx_grammar::operators::FunctionKind;
 use actx_grammar::token::{Keyword, Sign, TokenKind};
-use actx_data::NoMemory;
 use actx_lex::token::Token;
 use std::alloc::Global;
 use std::marker::Model;

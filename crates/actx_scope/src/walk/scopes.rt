@@ -11,9 +11,9 @@ use super::state::Walk;
 use crate::count::{after, names_end};
 use crate::declared::{Declared, add, add_init, add_list, add_own, add_params};
 use crate::place::Outer;
-use actx_grammar::name::Name;
 use actx_ast::tree::{ForInit, Function, Stmt};
 use actx_data::NoMemory;
+use actx_grammar::name::Name;
 use std::alloc::Global;
 
 /// What a function's parameters, of which the first has this number, and its body declare.

@@ -10,8 +10,8 @@ use crate::fault::CheckFault;
 use crate::link::Link;
 use crate::names::{is_inherited, is_proto, is_unbindable};
 use crate::place::{Place, misplaced_unless, reserved_if};
-use actx_grammar::name::Name;
 use actx_data::{NoMemory, Units};
+use actx_grammar::name::Name;
 use std::alloc::Global;
 
 /// The place, the links of the nodes so far, the next node's number and the first offence.

@@ -3,8 +3,8 @@ use Rattle.actx_ast.specs.View.{program_view}
 use Rattle.actx_top.specs.Accepts.{ReadsPlain}
 use Rattle.actx_top.specs.Answers.{most_steps}
 use Rattle.actx_top.specs.Ending.{Ends}
-use Rattle.actx_top.specs.Low.{low}
-use Rattle.actx_top.specs.Meaning.{target_shows}
+use Rattle.actx_rules.specs.Low.{low}
+use Rattle.actx_rules.specs.Meaning.{target_shows}
 use Rattle.actx_top.proofs.execute.execute.Goals as goal
 
 pub read_back-requires : goal.read_back-requires

@@ -1,7 +1,7 @@
 use Rattle.std.proofs.Common.{◌≡◌, ap, ◌∙◌, arith, take, map}
 use Rattle.std.proofs.lemmas.Grind.{common_steps}
 use Rattle.actx_ast.specs.View.{expr_view, exprs_of, const_view, consts_of, property_view, properties_of, stmt_view, stmts_of}
-use Rattle.actx_top.specs.Low.{p_, renamed, prop_key_renamed, stmt_renamed}
+use Rattle.actx_rules.specs.Low.{p_, renamed, prop_key_renamed, stmt_renamed}
 use Rattle.actx_top.proofs.Lowered.{exprs_each, properties_each, items_each, statements_each}
 use Rattle.actx_top.proofs.lower.+renamed.Goals as goal
 

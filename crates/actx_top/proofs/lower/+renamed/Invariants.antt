@@ -1,6 +1,6 @@
 use Rattle.std.proofs.Common.{◌≡◌, map, take}
 use Rattle.actx_ast.specs.View.{expr_view, const_view, property_view, stmt_view}
-use Rattle.actx_top.specs.Low.{p_, renamed, prop_key_renamed, stmt_renamed}
+use Rattle.actx_rules.specs.Low.{p_, renamed, prop_key_renamed, stmt_renamed}
 use Rattle.actx_top.proofs.lower.+renamed.Given as goal
 
 abbrev pub invariant-all_renamed-loop-e : goal.invariant-all_renamed-loop-e

@@ -1,5 +1,5 @@
 use Rattle.std.proofs.Common.{◌≡◌, take, map}
-use Rattle.actx_top.specs.Low.{p_}
+use Rattle.actx_rules.specs.Low.{p_}
 use Rattle.actx_top.proofs.lower.names_renamed.Given as goal
 
 abbrev pub invariant-loop-name : goal.invariant-loop-name

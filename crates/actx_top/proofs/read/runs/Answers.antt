@@ -1,7 +1,7 @@
 use Rattle.std.proofs.Common.{◌≡◌, subst}
 use Rattle.actx_ast.specs.View.{program_view}
 use Rattle.actx_top.specs.Faults.{StopsAt}
-use Rattle.actx_top.specs.Taken.{first_untaken}
+use Rattle.actx_rules.specs.Taken.{first_untaken}
 use Rattle.actx_top.proofs.Reasons.{untaken_refused}
 use Rattle.actx_top.proofs.read.runs.Goals as goal
 

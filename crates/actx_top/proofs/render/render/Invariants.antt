@@ -1,5 +1,5 @@
 use Rattle.std.proofs.Common.{◌≡◌, take}
-use Rattle.actx_top.specs.Meaning.{lines_of}
+use Rattle.actx_rules.specs.Meaning.{lines_of}
 use Rattle.actx_top.proofs.render.render.Given as goal
 
 abbrev pub invariant-loop-event : goal.invariant-loop-event

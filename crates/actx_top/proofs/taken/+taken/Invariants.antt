@@ -1,7 +1,7 @@
 use Rattle.std.proofs.Common.{◌≡◌, ◌+◌, drop}
 use Rattle.actx_grammar.specs.Nodes.{exprs_nodes, properties_nodes, consts_nodes, stmts_nodes}
 use Rattle.actx_ast.specs.View.{exprs_view, properties_view, consts_view, stmts_view}
-use Rattle.actx_top.specs.Taken.{untaken_list, untaken_properties, untaken_items, untaken_stmts}
+use Rattle.actx_rules.specs.Taken.{untaken_list, untaken_properties, untaken_items, untaken_stmts}
 use Rattle.actx_top.proofs.taken.+taken.Given as goal
 
 abbrev pub invariant-list_taken-loop-e : goal.invariant-list_taken-loop-e

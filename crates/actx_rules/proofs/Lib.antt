@@ -1,0 +1,6 @@
+pub mod EmittedNames
+pub mod EmittedPrelude
+pub mod PreludeLaws
+pub mod Same
+pub mod Sample
+pub mod Whole

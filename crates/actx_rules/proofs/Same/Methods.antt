@@ -1,0 +1,101 @@
+-- The rows of a variable's methods: get, run entered, and run left by a value or a throw.
+use Rattle.std.proofs.Common.{◌≡◌, ℕ, suc, ◌*◌, ◌≤◌, true, List, [], ◌++◌, length, Option, Some, refl, sym, ap, subst, arith}
+use Rattle.std.specs.Prelude.{slice_set}
+use Rattle.std.proofs.lemmas.Option.{slice_get_within}
+use Rattle.actx_match.specs.Pairing.{IsOwned}
+use Rattle.actx_data.specs.declared.shown.ErrorName.TheVariants.{TypeError}
+use Rattle.actx_data.specs.declared.trace.TraceEvent.TheVariants.{Get}
+use Rattle.actx_data.specs.declared.value.Value.{Value}
+use Rattle.actx_data.specs.declared.value.Value.TheVariants as v
+use Rattle.actx_grammar.specs.declared.side.Side.TheVariants.{Plain}
+use Rattle.actx_rules.specs.Agent.{mapped_or, with_mapped, this_variable}
+use Rattle.actx_rules.specs.Properties.{entry_at, more_shown}
+use Rattle.actx_rules.specs.Machine.{throws, gets, runs, first, rest, call_thing, row, at}
+use Rattle.actx_rules.specs.State.{Thing, Failure, Task, Given, Call, Mapped, Frame, Variable, Store, Goes, with_thing}
+use Rattle.actx_rules.specs.Related.{World, ValueIs, undefined_is, ArgumentsAre, throw_is, ChainIs, failure_is, now_record, get_thing_of, run_thing_of, MappingIs, KeptAt, running, ForValue, FramesAre, mapping_frame_is, fits_throw, TaskIs, given_is, done_is, call_is, ScopeIs, here, away_call, StoreIs, doing_is, Related}
+use Rattle.actx_rules.specs.Laws.{Laws, Refuses, Comes}
+use Rattle.actx_rules.proofs.Same.Growth.{grows_same, grows_thing, thing_world, mapping_later, frames_later, lasts_front, later_thing, later_heap, later_cells}
+use Rattle.actx_rules.proofs.Same.Shown.{show_more_same}
+use Rattle.actx_rules.proofs.Same.Stores.{ready, store_thing, new_value, store_moved, store_shown, store_cells, store_nodes, lasts_now, store_now}
+use Rattle.actx_rules.proofs.Same.Variables.{VariableIs, no_variable, a_variable, this_is}
+use Rattle.actx_rules.proofs.Same.Joins.{Joins, landed, landed_with, to_done, to_given, first_is, rest_is, rest_shorter, six_are}
+
+module _ (laws : Laws) (w : World) where
+  -- a receiver that is no variable
+  refused : (n : ℕ) (g : Thing) (a : Task) (y : Value) (ws : List Value) (fs gs : List Frame) (s r : Store) → Refuses g r y ws gs → FramesAre w r.heap r.scopes ForValue fs gs → ScopeIs w a fs s.scope s.receiver r.scope r.receiver → StoreIs w s r → Joins n (throws TypeError fs s) (call_thing Plain (Some g) y ws gs r)
+  refused n g a y ws fs gs s r d f c st =
+      let w' = thing_world w (length r.heap) true in
+      let b = Failure TypeError [] in
+      let s1 = with_thing s b in
+      let r1 = with_thing r b in
+      let st1 = store_thing w s r st b b true (failure_is TypeError) (λ ps e. absurd (cc)) in
+      landed n 100 _ w' _ _ fs gs s1 (record r1 { scopes = r.scopes ++ d.cells }) d.leads (omega arith)
+      (done_is ForValue (fits_throw _) (throw_is (new_value w s r st)) (frames_later (later_cells w' r1.heap r.scopes d.cells) (frames_later (later_thing w r.heap r.scopes b true) f)))
+      (to_done w w' (grows_thing w (length r.heap) true) _ a fs _ _ _ _ c)
+      (store_cells w' s1 r1 st1 d.cells r.scope r.receiver)
+
+  -- GET
+  pub getting : (x : Option Variable) (e : Value) (a : Task) (y : Value) (ws : List Value) (fs gs : List Frame) (s r : Store) (st : StoreIs w s r) → VariableIs w r.heap x e → entry_at y st.agent.entries ≡ e → FramesAre w r.heap r.scopes ForValue fs gs → ScopeIs w a fs s.scope s.receiver r.scope r.receiver → Joins (length s.mapping) (gets x fs s) (call_thing Plain (Some get_thing_of) y ws gs r)
+  getting x e a y ws fs gs s r st no_variable q f c = refused (length s.mapping) get_thing_of a y ws fs gs s r (laws.get_refuses r y ws gs (ready w s r st) q) f c st
+  getting x e a y ws fs gs s r st (a_variable k n p {a = d} {b = d'} h g) q f c =
+      let l = laws.gets w r y ws gs (ready w s r st) p n d d' s.mapping q g h st.agent.mapping_is in
+      let old = mapped_or n d s.mapping in
+      let s1 = record s { shown = more_shown s.shown old } in
+      let r1 = record r { shown = more_shown r.shown l.value } in
+      let st1 = store_shown w s r st old l.value l.is in
+      landed_with (length s.mapping) (100 * suc (length s.mapping)) _ _ _ w _ _ fs gs s1 (record r1 { scopes = r.scopes ++ l.cells })
+      (ap (Get n) (show_more_same w s.heap r.heap st.heap old l.value l.is s.shown r.shown st.shown)) l.leads (omega arith)
+      (given_is l.is (frames_later (later_cells w r.heap r.scopes l.cells) f))
+      (to_given w w (grows_same w) _ a fs _ _ _ _ c f)
+      (store_cells w s1 r1 st1 l.cells r.scope r.receiver)
+
+  -- RUN, ENTERED
+  entering : (x : Option Variable) (e y : Value) (vs ws : List Value) (fs gs : List Frame) (s r : Store) (st : StoreIs w s r) → VariableIs w r.heap x e → entry_at y st.agent.entries ≡ e → length vs ≤ 8 → ArgumentsAre w vs ws → FramesAre w r.heap r.scopes ForValue fs gs → ChainIs w s.scope r.scope → ValueIs w s.receiver r.receiver → Joins (length s.mapping) (runs x vs fs s) (call_thing Plain (Some run_thing_of) y ws gs r)
+  entering x e y vs ws fs gs s r st no_variable q long hs f c o = refused (length s.mapping) run_thing_of (Given v.Undefined) y ws fs gs s r (laws.run_refuses r y ws gs (ready w s r st) q) f (here c o) st
+  entering x e y vs ws fs gs s r st (a_variable k n p {a = d} {b = d'} h g) q long hs f c o =
+      let l = laws.enters w r y ws gs (ready w s r st) p n (first vs) d' s.mapping q g (first_is w vs ws hs) st.agent.mapping_is in
+      let ms = with_mapped n (first vs) s.mapping in
+      let r1 = record r { heap = r.heap ++ l.nodes } in
+      let st1 = store_nodes w s r st l.nodes in
+      let heap2 = slice_set r1.heap 3 (now_record l.mapping (length s.variables)) in
+      let r2 = record r1 { heap = heap2 } in
+      let s2 = record s { mapping = ms } in
+      let st2 = store_now w s r1 st1 ms l.mapping l.is in
+      let lasts1 = lasts_front r.heap l.nodes in
+      let lasts2 = lasts_now w s r1 st1 l.mapping (length s.variables) in
+      let old1 = mapping_later w w (grows_same w) r.heap r1.heap lasts1 s.mapping st.agent.current st.agent.mapping_is in
+      let old2 = mapping_later w w (grows_same w) r1.heap heap2 lasts2 s.mapping st.agent.current old1 in
+      let own : IsOwned w.scopes l.scope = λ i e2. let p2 = st.scopes.pair i l.scope e2 in let within = slice_get_within r.scopes l.scope p2.1 p2.3 in let new = l.new in omega (arith, within, new) in
+      let f1 = frames_later (later_heap w r.heap r.scopes r1.heap lasts1) f in
+      let f2 = frames_later (later_heap w r1.heap r.scopes heap2 lasts2) f1 in
+      let f3 = frames_later (later_cells w heap2 r.scopes l.cells) f2 in
+      let left = rest_is w _ _ (rest_is w vs ws hs) in
+      let short = rest_shorter w 6 (rest vs) (rest_shorter w 7 vs long) in
+      landed (length s.mapping) (200 * suc (length s.mapping)) _ w _ _ _ _ s2 (record r2 { scope = l.chain; receiver = y; scopes = r.scopes ++ l.cells }) l.leads (omega arith)
+      (call_is (omega (arith, short)) (first_is w _ _ (rest_is w vs ws hs)) undefined_is (six_are w _ _ short left)
+      (mapping_frame_is l.scope old2 (record { cells = l.own; has = l.has; kept = l.old; free = l.free; own = own }) c o f3))
+      (away_call s.scope s.receiver l.chain y)
+      (store_cells w s2 r2 st2 l.cells l.chain y)
+
+  pub run_called : (u x y : Value) (vs ws : List Value) (fs gs : List Frame) (s r : Store) (st : StoreIs w s r) → ValueIs w x y → length vs ≤ 8 → ArgumentsAre w vs ws → FramesAre w r.heap r.scopes ForValue fs gs → ScopeIs w (Call u x vs) fs s.scope s.receiver r.scope r.receiver → Joins (length s.mapping) (runs (this_variable x s.variables) vs fs s) (call_thing Plain (Some run_thing_of) y ws gs r)
+  run_called u x y vs ws fs gs s r st h long hs f (here c o) = entering _ _ y vs ws fs gs s r st (this_is w s r st x y h) refl long hs f c o
+  run_called u x y vs ws fs gs s r st undefined_is long hs f (away_call b o c p) = refused (length s.mapping) run_thing_of (Call u v.Undefined vs) v.Undefined ws fs gs s r (laws.run_refuses r v.Undefined ws gs (ready w s r st) refl) f (away_call b o c p) st
+
+  -- RUN, LEFT
+  pub departing : (a b : Task) (k : ℕ) (ms : List Mapped) (m x y : Value) (up over : List ℕ) (fs gs : List Frame) (s r : Store) → Comes b → MappingIs w r.heap ms m → KeptAt w r.scopes k m → ChainIs w up over → ValueIs w x y → FramesAre w r.heap r.scopes ForValue fs gs → ((heap : List Thing) (scopes : List _) → FramesAre w heap scopes ForValue fs gs → TaskIs w heap scopes a fs b gs) → StoreIs w s r → Joins (length s.mapping) (Goes a fs (record s { mapping = ms; scope = up; receiver = x })) (row Plain b (running k over y gs) r)
+  departing a b k ms m x y up over fs gs s r come h kept c o f task st =
+      let l = laws.departs r b k over y gs m (ready w s r st) kept.cells come kept.has kept.kept kept.free in
+      let s1 = record s { mapping = ms } in
+      let heap1 = slice_set r.heap 3 (now_record m (length s.variables)) in
+      let r1 = record r { heap = heap1 } in
+      let st1 = store_now w s r st ms m h in
+      let r2 = record r1 { scope = over; receiver = y; scopes = r.scopes ++ l.cells } in
+      let st2 = store_cells w s1 r1 st1 l.cells over y in
+      let st3 = store_moved w s1 r2 st2 up over x y in
+      let f1 = frames_later (later_heap w r.heap r.scopes heap1 (lasts_now w s r st m (length s.variables))) f in
+      let f2 = frames_later (later_cells w heap1 r.scopes l.cells) f1 in
+      record {
+        count = l.count;
+        kept = λ tr. subst (Related (at a fs (record s { mapping = ms; scope = up; receiver = x }) tr)) (sym (l.by tr)) (record { now = doing_is w (task heap1 (r.scopes ++ l.cells) f2) (here c o) st3; trace = refl });
+        within = let within = l.within in omega (arith, within);
+      }

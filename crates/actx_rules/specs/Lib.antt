@@ -1,0 +1,15 @@
+pub mod Texts
+pub mod Operators
+pub mod State
+pub mod Properties
+pub mod Printing
+pub mod Agent
+pub mod Notes
+pub mod Machine
+pub mod Prelude
+pub mod Low
+pub mod Weight
+pub mod Meaning
+pub mod Taken
+pub mod Related
+pub mod Laws

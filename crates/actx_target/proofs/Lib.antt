@@ -1,0 +1,10 @@
+pub mod Outcomes
+pub mod Cells
+pub mod Tables
+pub mod Heaps
+pub mod Chains
+pub mod Methods
+pub mod Parameters
+pub mod Scopes
+pub mod Forms
+pub mod Running

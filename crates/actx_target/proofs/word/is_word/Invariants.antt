@@ -1,0 +1,6 @@
+use Rattle.std.proofs.Common.{◌≡◌, length, drop}
+use Rattle.actx_rules.specs.Texts.{same_text}
+use Rattle.actx_target.proofs.word.is_word.Given as goal
+
+abbrev pub invariant-loop-i : goal.invariant-loop-i
+invariant-loop-i l = (same_text l.name l.word ≡ same_text (drop l.i l.chars) (drop l.i l.word)) × (length l.chars ≡ length l.word)

@@ -1,0 +1,58 @@
+//! Names that the machine knows, as `length`.
+
+ghost use Rattle.std.specs.Prelude.{◌≡◌};
+ghost use Rattle.actx_rules.specs.Texts.{same_text};
+ghost use Rattle.actx_rules.specs.Properties.{is_proto, is_inherited};
+
+use actx_data::Units;
+use actx_grammar::name::Name;
+
+/// Whether the name is this word of ASCII characters.
+pub fn is_word(name: &Name, word: &[u8]) -> bool
+    ensures { result ≡ same_text name.now word.now }
+{
+    let chars = name.as_slice();
+    if chars.len() != word.len() {
+        return false;
+    }
+    for (i, c) in chars.iter().enumerate() {
+        if *c as u32 != u32::from(word[i]) {
+            return false;
+        }
+    }
+    true
+}
+
+/// Whether the text is this word of ASCII characters.
+pub fn is_text(text: &Units, word: &[u8]) -> bool
+    ensures { result ≡ same_text text.now word.now }
+{
+    let units = text.as_slice();
+    if units.len() != word.len() {
+        return false;
+    }
+    for (i, unit) in units.iter().enumerate() {
+        if *unit != u16::from(word[i]) {
+            return false;
+        }
+    }
+    true
+}
+
+/// Whether a name is one of Object.prototype's (ECMA-262, 20.1.3 and B.2.2).
+pub fn is_inherited(name: &Name) -> bool
+    ensures { result ≡ is_inherited name.now }
+{
+    is_word(name, b"constructor")
+        || is_word(name, b"hasOwnProperty")
+        || is_word(name, b"isPrototypeOf")
+        || is_word(name, b"propertyIsEnumerable")
+        || is_word(name, b"toLocaleString")
+        || is_word(name, b"toString")
+        || is_word(name, b"valueOf")
+        || is_word(name, b"__proto__")
+        || is_word(name, b"__defineGetter__")
+        || is_word(name, b"__defineSetter__")
+        || is_word(name, b"__lookupGetter__")
+        || is_word(name, b"__lookupSetter__")
+}

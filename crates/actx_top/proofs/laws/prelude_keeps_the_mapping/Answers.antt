@@ -1,5 +1,0 @@
-use Rattle.actx_top.proofs.PreludeLaws.Whole.{laws}
-use Rattle.actx_top.proofs.laws.prelude_keeps_the_mapping.Goals as goal
-
-pub returns : goal.returns
-returns c = laws

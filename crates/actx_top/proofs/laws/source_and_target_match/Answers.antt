@@ -1,5 +1,0 @@
-use Rattle.actx_top.proofs.Whole.{same}
-use Rattle.actx_top.proofs.laws.source_and_target_match.Goals as goal
-
-pub returns : goal.returns
-returns c = same

@@ -1,6 +1,0 @@
-use Rattle.std.proofs.Common.{length}
-use Rattle.actx_top.specs.Chains.{chain_of}
-use Rattle.actx_top.proofs.machine.expressions.+find.Given as goal
-
-abbrev pub decreases-find : goal.decreases-find
-decreases-find l = length (chain_of l.«open».now)

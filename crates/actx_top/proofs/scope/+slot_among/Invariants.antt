@@ -1,5 +1,0 @@
-use Rattle.std.proofs.Common.{length}
-use Rattle.actx_top.proofs.scope.+slot_among.Given as goal
-
-abbrev pub decreases-slot_among : goal.decreases-slot_among
-decreases-slot_among l = length l.names.now
