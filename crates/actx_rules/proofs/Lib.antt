@@ -1,5 +1,3 @@
-pub mod EmittedNames
-pub mod EmittedPrelude
 pub mod PreludeLaws
 pub mod Same
 pub mod Sample

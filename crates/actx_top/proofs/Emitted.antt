@@ -23,8 +23,8 @@ use Rattle.actx_rules.specs.Related.{NamesAre, no_names, more_names, ExprIs, num
 use Rattle.actx_lex.specs.Lexemes.{lexemes}
 use Rattle.actx_top.specs.Accepts.{Takes}
 use Rattle.actx_rules.specs.Taken.{IsTaken}
-use Rattle.actx_rules.proofs.EmittedNames.{binding_renamed, reference_renamed, bindings_renamed}
-use Rattle.actx_rules.proofs.EmittedPrelude.{prelude_on, prelude_deep, variable_named}
+use Rattle.actx_top.proofs.EmittedNames.{binding_renamed, reference_renamed, bindings_renamed}
+use Rattle.actx_top.proofs.EmittedPrelude.{prelude_on, prelude_deep, variable_named}
 use Rattle.actx_rules.proofs.Same.Image.{program_image}
 use Rattle.std.proofs.lemmas.List.Elements.{All-nil, All-cons, All-head, All-tail}
 

@@ -1,5 +1,7 @@
 pub mod Options
 pub mod Lowered
+pub mod EmittedNames
+pub mod EmittedPrelude
 pub mod Emitted
 pub mod Readable
 pub mod Boundaries
