@@ -12,6 +12,7 @@ use actx_grammar::operators::{BinaryOp, FunctionKind, LogicOp, UnaryOp};
 use std::alloc::Global;
 use std::cmp::max;
 
+/// A prefix operator on an operand.
 pub fn unary(alloc: Global, op: UnaryOp, held: Operand) -> Result<Operand, NoMemory>
     ensures { IfOk result (λ o. (expr_view o.expr ≡ Unary op (expr_view held.expr)) × (o.reach ≡ held.reach)) }
 {
@@ -20,6 +21,7 @@ pub fn unary(alloc: Global, op: UnaryOp, held: Operand) -> Result<Operand, NoMem
     Ok(Operand { expr, reach })
 }
 
+/// `await e`
 pub fn awaited(alloc: Global, held: Operand) -> Result<Operand, NoMemory>
     ensures { IfOk result (λ o. (expr_view o.expr ≡ Awaited (expr_view held.expr)) × (o.reach ≡ held.reach)) }
 {
@@ -28,6 +30,7 @@ pub fn awaited(alloc: Global, held: Operand) -> Result<Operand, NoMemory>
     Ok(Operand { expr, reach })
 }
 
+/// An operator between two operands.
 pub fn binary(
     alloc: Global,
     op: BinaryOp,
@@ -42,6 +45,7 @@ pub fn binary(
     Ok(Operand { expr, reach })
 }
 
+/// `&&`, `||` or `??` between two operands.
 pub fn logic(alloc: Global, op: LogicOp, left: Operand, right: Operand) -> Result<Operand, NoMemory>
     ensures { IfOk result (λ o. (expr_view o.expr ≡ Logic op (expr_view left.expr) (expr_view right.expr)) × (o.reach ≡ max left.reach right.reach)) }
 {
@@ -51,6 +55,7 @@ pub fn logic(alloc: Global, op: LogicOp, left: Operand, right: Operand) -> Resul
     Ok(Operand { expr, reach })
 }
 
+/// `test ? yes : no`
 pub fn choice(alloc: Global, test: Expr, yes: Operand, no: Operand) -> Result<Operand, NoMemory>
     ensures { IfOk result (λ o. (expr_view o.expr ≡ Choice (expr_view test) (expr_view yes.expr) (expr_view no.expr)) × (o.reach ≡ max yes.reach no.reach)) }
 {
@@ -61,6 +66,7 @@ pub fn choice(alloc: Global, test: Expr, yes: Operand, no: Operand) -> Result<Op
     Ok(Operand { expr, reach })
 }
 
+/// `a = e`
 pub fn set_name(alloc: Global, name: Name, value: Operand) -> Result<Operand, NoMemory>
     ensures { IfOk result (λ o. (expr_view o.expr ≡ SetName name (expr_view value.expr)) × (o.reach ≡ value.reach)) }
 {
@@ -69,6 +75,7 @@ pub fn set_name(alloc: Global, name: Name, value: Operand) -> Result<Operand, No
     Ok(Operand { expr, reach })
 }
 
+/// `a.b = e` or `a[b] = e`
 pub fn set_member(
     alloc: Global,
     base: Expr,
@@ -84,6 +91,7 @@ pub fn set_member(
     Ok(Operand { expr, reach })
 }
 
+/// `a += e` or its like
 pub fn change(alloc: Global, name: Name, op: BinaryOp, value: Operand) -> Result<Operand, NoMemory>
     ensures { IfOk result (λ o. (expr_view o.expr ≡ Change name op (expr_view value.expr)) × (o.reach ≡ value.reach)) }
 {
@@ -98,6 +106,7 @@ fn some(alloc: Global, expr: Expr) -> Result<Option<Box<Expr>>, NoMemory>
     Ok(Some(Box::new(alloc, expr)?))
 }
 
+/// `yield e`
 pub fn yielded(alloc: Global, held: Operand) -> Result<Operand, NoMemory>
     ensures { IfOk result (λ o. (expr_view o.expr ≡ Yielded (some_expr (expr_view held.expr))) × (o.reach ≡ held.reach)) }
 {
@@ -106,6 +115,7 @@ pub fn yielded(alloc: Global, held: Operand) -> Result<Operand, NoMemory>
     Ok(Operand { expr, reach })
 }
 
+/// `yield* e`
 pub fn yielded_all(alloc: Global, held: Operand) -> Result<Operand, NoMemory>
     ensures { IfOk result (λ o. (expr_view o.expr ≡ YieldAll (expr_view held.expr)) × (o.reach ≡ held.reach)) }
 {

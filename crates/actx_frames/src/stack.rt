@@ -89,6 +89,7 @@ fn frame_levels(frame: &Frame) -> usize
 }
 
 impl Stack {
+    /// No frame.
     pub fn new(alloc: Global) -> Stack
         ensures { result ≡ [] }
     {
@@ -98,6 +99,7 @@ impl Stack {
         }
     }
 
+    /// Puts a frame on top.
     #[tactic(auto, using(crate::proofs::ParseStack::onto_last, crate::proofs::ParseStack::levels_most))]
     pub fn push(&mut self, frame: Frame) -> Result<(), NoMemory>
         ensures { OnOk result (self.new ≡ frame ∷ self.old) }
@@ -108,6 +110,7 @@ impl Stack {
         Ok(())
     }
 
+    /// Takes the frame on top.
     #[tactic(auto, using(crate::proofs::ParseStack::onto_last))]
     pub fn pop(&mut self) -> Option<Frame>
         ensures { MatchOption result ((self.old ≡ []) × (self.new ≡ [])) (λ f. self.old ≡ f ∷ self.new) }
