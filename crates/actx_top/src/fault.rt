@@ -5,7 +5,7 @@ ghost use Rattle.actx_ports.specs.Ports.{AddsPart};
 ghost use Rattle.actx_top.specs.Answers.{fault_line, fault_status, refusal_name, TellsAs, OutOfMemory, Refused, ThrewValue};
 ghost use Rattle.actx_top.specs.FaultView.{fault_view};
 
-use crate::shown_text::shown_text;
+use crate::shown_values::shown_text;
 use actx_data::{NoMemory, Shown};
 use actx_lex::lines::Place;
 use actx_ports::{PortFault, Sink, write_whole};

@@ -8,11 +8,11 @@ mod lower;
 mod mode;
 mod read;
 mod render;
-mod shown_text;
+mod shown_values;
 mod taken;
 mod top;
 
 pub use laws::emitted_is_spelled;
 pub use read::TextFault;
-pub use shown_text::shown_text;
+pub use shown_values::shown_text;
 pub use top::{actx, lower_text};
