@@ -1,0 +1,3 @@
+pub mod Mapping
+pub mod Waiting
+pub mod Line

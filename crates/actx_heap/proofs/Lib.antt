@@ -1,0 +1,4 @@
+pub mod Tables
+pub mod Heaps
+pub mod Numbers
+pub mod Twins

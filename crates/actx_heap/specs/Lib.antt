@@ -1,0 +1,4 @@
+pub mod Texts
+pub mod Things
+pub mod Properties
+pub mod Views

@@ -1,0 +1,5 @@
+pub mod Orders
+mod Drive
+mod Samples
+mod Both
+mod PreludeLaws

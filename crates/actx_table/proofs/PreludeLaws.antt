@@ -1,0 +1,11 @@
+pub mod Drive
+pub mod Refused
+pub mod Found
+pub mod Gotten
+pub mod Replaced
+pub mod Entered
+pub mod Departs
+pub mod Made
+pub mod Options
+pub mod Whole
+pub mod Begun

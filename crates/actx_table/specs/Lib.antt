@@ -1,0 +1,16 @@
+pub mod Operators
+pub mod State
+pub mod Scopes
+pub mod Showing
+pub mod Notes
+pub mod Agent
+pub mod Answers
+pub mod Forms
+pub mod Expressions
+pub mod Statements
+pub mod Machine
+pub mod Meaning
+pub mod Prelude
+pub mod Low
+pub mod PreludeState
+pub mod Laws
