@@ -58,7 +58,7 @@ abbrev pub init_step : ForInit-F ℕ ℕ ℕ ℕ ℕ ℕ ℕ ℕ ℕ ℕ ℕ →
 init_step ForInit-F.Nothing = 0
 init_step (ForInit-F.ForInit::Let is) = listed is.items
 init_step (ForInit-F.ForInit::Const is) = listed is.items
-init_step (ForInit-F.ForInit::Value e) = e
+init_step (ForInit-F.ForInit::Value e) = 1 + e.value
 
 abbrev pub key_step : Key-F ℕ ℕ ℕ ℕ ℕ ℕ ℕ ℕ ℕ ℕ ℕ → ℕ
 key_step (Key-F.Dot x) = 0
@@ -73,20 +73,20 @@ stmt_step (Stmt-F.Stmt::Let is) = listed is.items
 stmt_step (Stmt-F.Stmt::Const is) = listed is.items
 stmt_step (Stmt-F.Fun f) = f
 stmt_step (Stmt-F.Block ss) = listed ss.items
-stmt_step (Stmt-F.If e then other) = 1 + e + then.value + boxed_work (option_map (λ b. b.value) other)
-stmt_step (Stmt-F.While e body) = 1 + e + body.value
-stmt_step (Stmt-F.DoWhile body e) = 1 + e + body.value
-stmt_step (Stmt-F.For i test update body) = 1 + i + maybe_work test + maybe_work update + body.value
-stmt_step (Stmt-F.ForOf constant x over body) = 1 + over + body.value
-stmt_step (Stmt-F.ForAwait constant x over body) = 1 + over + body.value
+stmt_step (Stmt-F.If e then other) = 2 + e.value + then.value + boxed_work (option_map (λ b. b.value) other)
+stmt_step (Stmt-F.While e body) = 2 + e.value + body.value
+stmt_step (Stmt-F.DoWhile body e) = 2 + e.value + body.value
+stmt_step (Stmt-F.For i test update body) = 1 + i + boxed_work (option_map (λ b. b.value) test) + boxed_work (option_map (λ b. b.value) update) + body.value
+stmt_step (Stmt-F.ForOf constant x over body) = 2 + over.value + body.value
+stmt_step (Stmt-F.ForAwait constant x over body) = 2 + over.value + body.value
 stmt_step Stmt-F.Break = 0
 stmt_step Stmt-F.Continue = 0
-stmt_step (Stmt-F.Return o) = maybe_work o
-stmt_step (Stmt-F.Throw e) = e
+stmt_step (Stmt-F.Return o) = boxed_work (option_map (λ b. b.value) o)
+stmt_step (Stmt-F.Throw e) = 1 + e.value
 stmt_step (Stmt-F.Try block catcher final) = listed block.items + maybe_work catcher + maybe_work (option_map (λ ss. listed ss.items) final)
-stmt_step (Stmt-F.Stmt::Value e) = e
+stmt_step (Stmt-F.Stmt::Value e) = 1 + e.value
 stmt_step Stmt-F.Empty = 0
-stmt_step (Stmt-F.Switch e cs) = e + listed cs.items
+stmt_step (Stmt-F.Switch e cs) = 1 + e.value + listed cs.items
 
 abbrev pub catcher_step : Catcher-F ℕ ℕ ℕ ℕ ℕ ℕ ℕ ℕ ℕ ℕ ℕ → ℕ
 catcher_step c = listed c.body.items
@@ -101,7 +101,7 @@ abbrev pub function_step : Function-F ℕ ℕ ℕ ℕ ℕ ℕ ℕ ℕ ℕ ℕ �
 function_step f = listed f.body.items
 
 abbrev pub let_step : LetItem-F ℕ ℕ ℕ ℕ ℕ ℕ ℕ ℕ ℕ ℕ ℕ → ℕ
-let_step i = maybe_work i.value
+let_step i = boxed_work (option_map (λ b. b.value) i.value)
 
 abbrev pub property_step : Property-F ℕ ℕ ℕ ℕ ℕ ℕ ℕ ℕ ℕ ℕ ℕ → ℕ
 property_step p = p.key + p.value

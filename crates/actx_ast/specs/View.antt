@@ -99,7 +99,7 @@ abbrev pub init_step : ForInit-F t.Expr t.Init t.Key t.PropKey t.Stmt t.Catch Se
 init_step ForInit-F.Nothing = t.init_nothing
 init_step (ForInit-F.ForInit::Let is) = t.init_let (lets_of is.items)
 init_step (ForInit-F.ForInit::Const is) = t.init_const (consts_of is.items)
-init_step (ForInit-F.ForInit::Value e) = t.init_value e
+init_step (ForInit-F.ForInit::Value e) = t.init_value e.value
 
 abbrev pub key_step : Key-F t.Expr t.Init t.Key t.PropKey t.Stmt t.Catch SeenClause SeenConst t.Code SeenLet SeenProperty → t.Key
 key_step (Key-F.Dot x) = t.Dot x
@@ -114,20 +114,20 @@ stmt_step (Stmt-F.Stmt::Let is) = t.Let (lets_of is.items)
 stmt_step (Stmt-F.Stmt::Const is) = t.Const (consts_of is.items)
 stmt_step (Stmt-F.Fun f) = t.Fun f
 stmt_step (Stmt-F.Block ss) = t.Block (stmts_of ss.items)
-stmt_step (Stmt-F.If e then other) = t.If e then.value (maybe_stmt (option_map (λ b. b.value) other))
-stmt_step (Stmt-F.While e body) = t.While e body.value
-stmt_step (Stmt-F.DoWhile body e) = t.DoWhile body.value e
-stmt_step (Stmt-F.For i test update body) = t.For i (maybe_expr test) (maybe_expr update) body.value
-stmt_step (Stmt-F.ForOf constant x over body) = t.ForOf constant x over body.value
-stmt_step (Stmt-F.ForAwait constant x over body) = t.ForAwait constant x over body.value
+stmt_step (Stmt-F.If e then other) = t.If e.value then.value (maybe_stmt (option_map (λ b. b.value) other))
+stmt_step (Stmt-F.While e body) = t.While e.value body.value
+stmt_step (Stmt-F.DoWhile body e) = t.DoWhile body.value e.value
+stmt_step (Stmt-F.For i test update body) = t.For i (maybe_expr (option_map (λ b. b.value) test)) (maybe_expr (option_map (λ b. b.value) update)) body.value
+stmt_step (Stmt-F.ForOf constant x over body) = t.ForOf constant x over.value body.value
+stmt_step (Stmt-F.ForAwait constant x over body) = t.ForAwait constant x over.value body.value
 stmt_step Stmt-F.Break = t.Break
 stmt_step Stmt-F.Continue = t.Continue
-stmt_step (Stmt-F.Return o) = t.Return (maybe_expr o)
-stmt_step (Stmt-F.Throw e) = t.Throw e
+stmt_step (Stmt-F.Return o) = t.Return (maybe_expr (option_map (λ b. b.value) o))
+stmt_step (Stmt-F.Throw e) = t.Throw e.value
 stmt_step (Stmt-F.Try block catcher final) = t.Try (stmts_of block.items) (catch_of catcher) (last_of (option_map (λ ss. ss.items) final))
-stmt_step (Stmt-F.Stmt::Value e) = t.Value e
+stmt_step (Stmt-F.Stmt::Value e) = t.Value e.value
 stmt_step Stmt-F.Empty = t.Empty
-stmt_step (Stmt-F.Switch e cs) = t.Switch e (clauses_of cs.items)
+stmt_step (Stmt-F.Switch e cs) = t.Switch e.value (clauses_of cs.items)
 
 abbrev pub catcher_step : Catcher-F t.Expr t.Init t.Key t.PropKey t.Stmt t.Catch SeenClause SeenConst t.Code SeenLet SeenProperty → t.Catch
 catcher_step c = t.catch c.name (stmts_of c.body.items)
@@ -142,7 +142,7 @@ abbrev pub function_step : Function-F t.Expr t.Init t.Key t.PropKey t.Stmt t.Cat
 function_step f = t.code f.name f.kind f.params.items (stmts_of f.body.items)
 
 abbrev pub let_step : LetItem-F t.Expr t.Init t.Key t.PropKey t.Stmt t.Catch SeenClause SeenConst t.Code SeenLet SeenProperty → SeenLet
-let_step i = (i.name, maybe_expr i.value)
+let_step i = (i.name, maybe_expr (option_map (λ b. b.value) i.value))
 
 abbrev pub property_step : Property-F t.Expr t.Init t.Key t.PropKey t.Stmt t.Catch SeenClause SeenConst t.Code SeenLet SeenProperty → SeenProperty
 property_step p = (p.key, p.value)

@@ -37,6 +37,13 @@ fn deeper(a: u32, b: u32) -> u32
     if a < b { b } else { a }
 }
 
+/// One level above the deepest of three.
+fn above_three(a: u32, b: u32, c: u32) -> u32
+    ensures { (l m n : ℕ) → a ≡ min l 4294967295 → b ≡ min m 4294967295 → c ≡ min n 4294967295 → result ≡ min (suc (max l (max m n))) 4294967295 }
+{
+    above(deeper(a, deeper(b, c)))
+}
+
 /// With the level of the parentheses, where there are some.
 fn wrap(wrapped: bool, depth: u32) -> u32
     ensures { (n : ℕ) → depth ≡ min n 4294967295 → result ≡ min (spec.with_parens wrapped n) 4294967295 }
@@ -188,8 +195,8 @@ fn properties_depth(properties: &[Property]) -> u32
 }
 
 #[cycle(depth)]
-fn maybe_depth(e: &Option<Expr>) -> u32
-    ensures { result ≡ min (spec.depth_maybe (maybe_expr (option_map expr_view e.now))) 4294967295 }
+fn maybe_depth(e: &Option<Box<Expr>>) -> u32
+    ensures { result ≡ min (spec.depth_maybe (maybe_expr (option_map (λ b. expr_view b.value) e.now))) 4294967295 }
 {
     match e {
         None => 0,
@@ -262,8 +269,8 @@ fn statement_depth(stmt: &Stmt) -> u32
         Stmt::Fun(function) => function_depth(function),
         Stmt::Block(body) => above(statements_depth(body)),
         Stmt::If(test, branch, other) => {
-            let branches = deeper(statement_depth(branch), other_depth(other));
-            above(deeper(expr_depth(false, test, 1), branches))
+            let test = expr_depth(false, test, 1);
+            above_three(test, statement_depth(branch), other_depth(other))
         }
         Stmt::While(test, body) => {
             above(deeper(expr_depth(false, test, 1), statement_depth(body)))

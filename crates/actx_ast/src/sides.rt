@@ -90,8 +90,8 @@ fn are_exprs(side: Side, es: &[Expr]) -> bool
 
 /// Whether an expression may stand there, or there is none.
 #[cycle(sides)]
-fn is_maybe(side: Side, e: &Option<Expr>) -> bool
-    ensures { IsTrue result ↔ MaybeOn side (maybe_expr (option_map expr_view e.now)) }
+fn is_maybe(side: Side, e: &Option<Box<Expr>>) -> bool
+    ensures { IsTrue result ↔ MaybeOn side (maybe_expr (option_map (λ b. expr_view b.value) e.now)) }
 {
     match e {
         None => true,

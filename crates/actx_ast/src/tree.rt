@@ -82,7 +82,7 @@ pub struct Function {
 #[derive(Drop)]
 pub struct LetItem {
     pub name: Name,
-    pub value: Option<Expr>,
+    pub value: Option<Box<Expr>>,
 }
 
 /// An item of a `const`.
@@ -100,7 +100,7 @@ pub enum ForInit {
     Nothing,
     Let(Vec<LetItem>),
     Const(Vec<ConstItem>),
-    Value(Expr),
+    Value(Box<Expr>),
 }
 
 /// The `catch` part of a `try`, with the name of what was thrown or without.
@@ -126,35 +126,35 @@ pub enum Stmt {
     Const(Vec<ConstItem>),
     Fun(Function),
     Block(Vec<Stmt>),
-    If(Expr, Box<Stmt>, Option<Box<Stmt>>),
-    While(Expr, Box<Stmt>),
-    DoWhile(Box<Stmt>, Expr),
+    If(Box<Expr>, Box<Stmt>, Option<Box<Stmt>>),
+    While(Box<Expr>, Box<Stmt>),
+    DoWhile(Box<Stmt>, Box<Expr>),
     /// What it begins with, its test, its update and its body.
-    For(ForInit, Option<Expr>, Option<Expr>, Box<Stmt>),
+    For(ForInit, Option<Box<Expr>>, Option<Box<Expr>>, Box<Stmt>),
     ForOf {
         constant: bool,
         name: Name,
-        over: Expr,
+        over: Box<Expr>,
         body: Box<Stmt>,
     },
     ForAwait {
         constant: bool,
         name: Name,
-        over: Expr,
+        over: Box<Expr>,
         body: Box<Stmt>,
     },
     Break,
     Continue,
-    Return(Option<Expr>),
-    Throw(Expr),
+    Return(Option<Box<Expr>>),
+    Throw(Box<Expr>),
     Try {
         block: Vec<Stmt>,
         catcher: Option<Catcher>,
         last: Option<Vec<Stmt>>,
     },
-    Value(Expr),
+    Value(Box<Expr>),
     Empty,
-    Switch(Expr, Vec<Clause>),
+    Switch(Box<Expr>, Vec<Clause>),
 }
 
 /// A program: its list of statements.

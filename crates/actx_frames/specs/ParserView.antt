@@ -1,5 +1,6 @@
 -- What the code's parser holds stands for.
-use Rattle.std.specs.Prelude.{ℕ, zero, suc, List, [], ◌∷◌, map, Bool, false, Option, Some, None, option_map}
+use Rattle.std.specs.declared.alloc.Global.{Global}
+use Rattle.std.specs.Prelude.{Box, ℕ, zero, suc, List, [], ◌∷◌, map, Bool, false, Option, Some, None, option_map}
 use Rattle.actx_grammar.specs.Lexemes.{Lexeme}
 use Rattle.actx_grammar.specs.ParserOperands.{same_token}
 use Rattle.actx_grammar.specs.ParserState as m
@@ -37,8 +38,8 @@ abbrev pub bounds : Rules → m.Limits
 bounds rules = limits_view rules.limits
 
 -- PARTS THAT MAY BE LEFT OUT
-abbrev pub maybe_expr_view : Option Expr → t.MaybeExpr
-maybe_expr_view e = maybe_expr (option_map expr_view e)
+abbrev pub maybe_expr_view : Option (Box Expr Global) → t.MaybeExpr
+maybe_expr_view e.value = maybe_expr (option_map (λ b. expr_view b.value) e)
 
 abbrev pub catch_view : Option Catcher → t.Catch
 catch_view c = catch_of (option_map catcher_view c)
@@ -64,22 +65,22 @@ owner_view o.Block = m.block
 owner_view o.Tried = m.tried
 owner_view (o.Caught ss x) = m.caught (stmts_view ss.items) x
 owner_view (o.Finally ss c) = m.finally (stmts_view ss.items) (catch_view c)
-owner_view (o.Clause e cs n) = m.clause_of (expr_view e) (clauses_view cs.items) n
+owner_view (o.Clause e cs n) = m.clause_of (expr_view e.value) (clauses_view cs.items) n
 
 abbrev pub frame_view : Frame → m.Frame
 frame_view (f.Unary op) = m.in_unary op
 frame_view f.Await = m.in_await
-frame_view (f.Binary op a) = m.in_binary op (expr_view a.expr) a.reach
-frame_view (f.Logic op a) = m.in_logic op (expr_view a.expr) a.reach
-frame_view (f.Choice a) = m.in_choice (expr_view a.expr) a.reach
-frame_view (f.Other e a) = m.in_other (expr_view e) (expr_view a.expr) a.reach
+frame_view (f.Binary op a) = m.in_binary op (expr_view a.expr.value) a.reach
+frame_view (f.Logic op a) = m.in_logic op (expr_view a.expr.value) a.reach
+frame_view (f.Choice a) = m.in_choice (expr_view a.expr.value) a.reach
+frame_view (f.Other e a) = m.in_other (expr_view e.value) (expr_view a.expr.value) a.reach
 frame_view f.Paren = m.in_paren
-frame_view (f.Call e es n) = m.in_call (expr_view e) (exprs_view es.items) n
+frame_view (f.Call e es n) = m.in_call (expr_view e.value) (exprs_view es.items) n
 frame_view (f.Form form es n) = m.in_form form (exprs_view es.items) n
 frame_view (f.SetName x) = m.in_set_name x
-frame_view (f.Set e key n) = m.in_set (expr_view e) (key_view key) n
+frame_view (f.Set e key n) = m.in_set (expr_view e.value) (key_view key) n
 frame_view (f.Change x op) = m.in_change x op
-frame_view (f.Index a) = m.in_index (expr_view a.expr) a.reach
+frame_view (f.Index a) = m.in_index (expr_view a.expr.value) a.reach
 frame_view (f.Computed ps kind n) = m.in_computed (properties_view ps.items) kind n
 frame_view (f.Property ps key n) = m.in_property (properties_view ps.items) (prop_key_view key) n
 frame_view (f.Arrow kind xs) = m.in_arrow kind xs.items
@@ -92,18 +93,18 @@ frame_view f.Return = m.in_return
 frame_view f.Throw = m.in_throw
 frame_view f.If = m.in_if
 frame_view f.While = m.in_while
-frame_view (f.DoTest st n) = m.in_do_test (stmt_view st) n
+frame_view (f.DoTest st n) = m.in_do_test (stmt_view st.value) n
 frame_view f.ForInit = m.in_for_init
 frame_view (f.ForTest i n) = m.in_for_test (init_view i) n
-frame_view (f.ForUpdate i e n) = m.in_for_update (init_view i) (maybe_expr_view e) n
+frame_view (f.ForUpdate i e n) = m.in_for_update (init_view i) (maybe_expr_view e.value) n
 frame_view (f.ForOver constant x) = m.in_for_over constant x
 frame_view f.Switch = m.in_switch
-frame_view (f.YesOf a) = m.yes_of (expr_view a.expr) a.reach
-frame_view (f.NoOf e st n) = m.no_of (expr_view e) (stmt_view st) n
-frame_view (f.WhileOf a) = m.while_of (expr_view a.expr) a.reach
+frame_view (f.YesOf a) = m.yes_of (expr_view a.expr.value) a.reach
+frame_view (f.NoOf e st n) = m.no_of (expr_view e.value) (stmt_view st.value) n
+frame_view (f.WhileOf a) = m.while_of (expr_view a.expr.value) a.reach
 frame_view f.DoOf = m.do_of
-frame_view (f.ForBody i e u n) = m.for_body (init_view i) (maybe_expr_view e) (maybe_expr_view u) n
-frame_view (f.ForOfBody constant x a) = m.for_of_body constant x (expr_view a.expr) a.reach
+frame_view (f.ForBody i e u n) = m.for_body (init_view i) (maybe_expr_view e.value) (maybe_expr_view u) n
+frame_view (f.ForOfBody constant x a) = m.for_of_body constant x (expr_view a.expr.value) a.reach
 frame_view (f.List owner ss n) = m.in_list (owner_view owner) (stmts_view ss.items) n
 
 -- frames whose last is the innermost, on others whose first is
@@ -118,13 +119,13 @@ stack_view = map frame_view
 abbrev pub mode_view : Mode → m.Mode
 mode_view d.Start = m.start
 mode_view d.BodyStart = m.body_start
-mode_view (d.HaveStmt st n) = m.have_stmt (stmt_view st) n
+mode_view (d.HaveStmt st n) = m.have_stmt (stmt_view st.value) n
 mode_view d.Need = m.need
-mode_view (d.Have a) = m.have (expr_view a.expr) a.reach
-mode_view (d.HaveMember e key n) = m.have_member (expr_view e) (key_view key) n
+mode_view (d.Have a) = m.have (expr_view a.expr.value) a.reach
+mode_view (d.HaveMember e key n) = m.have_member (expr_view e.value) (key_view key) n
 mode_view (d.HaveName x) = m.have_name x
-mode_view (d.HaveBump e) = m.have_bump (expr_view e)
-mode_view (d.Whole a) = m.whole (expr_view a.expr) a.reach
+mode_view (d.HaveBump e) = m.have_bump (expr_view e.value)
+mode_view (d.Whole a) = m.whole (expr_view a.expr.value) a.reach
 mode_view d.Opened = m.opened
 mode_view (d.FirstName x) = m.first_name x
 mode_view (d.ClosedName x) = m.closed_name x
@@ -147,24 +148,24 @@ mode_view (d.KeyAsync ps n) = m.key_async (properties_view ps.items) n
 mode_view (d.KeyEnd ps n) = m.key_end (properties_view ps.items) n
 mode_view (d.MethodKey ps kind n) = m.method_key (properties_view ps.items) kind n
 mode_view (d.MethodOpen ps kind key n) = m.method_open (properties_view ps.items) kind (prop_key_view key) n
-mode_view (d.MemberName a) = m.member_name (expr_view a.expr) a.reach
-mode_view (d.CallOpen a) = m.call_open (expr_view a.expr) a.reach
+mode_view (d.MemberName a) = m.member_name (expr_view a.expr.value) a.reach
+mode_view (d.CallOpen a) = m.call_open (expr_view a.expr.value) a.reach
 mode_view (d.WordsNext ws) = m.words_next ws.items
 mode_view (d.LetName of is n) = m.let_name (items_of_view of) (lets_view is.items) n
 mode_view (d.LetBehind of is x n) = m.let_behind (items_of_view of) (lets_view is.items) x n
 mode_view (d.ConstName of is n) = m.const_name (items_of_view of) (consts_view is.items) n
 mode_view (d.ConstBehind of is x n) = m.const_behind (items_of_view of) (consts_view is.items) x n
-mode_view (d.JumpEnd st) = m.jump_end (stmt_view st)
+mode_view (d.JumpEnd st) = m.jump_end (stmt_view st.value)
 mode_view d.ReturnNext = m.return_next
 mode_view d.ThrowNext = m.throw_next
 mode_view d.IfOpen = m.if_open
 mode_view d.WhileOpen = m.while_open
-mode_view (d.DoWhile st n) = m.do_while (stmt_view st) n
-mode_view (d.DoEnd st e n) = m.do_end (stmt_view st) (expr_view e) n
+mode_view (d.DoWhile st n) = m.do_while (stmt_view st.value) n
+mode_view (d.DoEnd st e n) = m.do_end (stmt_view st.value) (expr_view e.value) n
 mode_view d.ForOpen = m.for_open
 mode_view d.ForNext = m.for_next
 mode_view (d.ForTest i n) = m.for_test (init_view i) n
-mode_view (d.ForUpdate i e n) = m.for_update (init_view i) (maybe_expr_view e) n
+mode_view (d.ForUpdate i e n) = m.for_update (init_view i) (maybe_expr_view e.value) n
 mode_view d.TryOpen = m.try_open
 mode_view (d.CatchNext ss n) = m.catch_next (stmts_view ss.items) n
 mode_view (d.CatchOpen ss n) = m.catch_open (stmts_view ss.items) n
@@ -174,10 +175,10 @@ mode_view (d.CatchBlock ss x n) = m.catch_block (stmts_view ss.items) x n
 mode_view (d.FinallyNext ss c n) = m.finally_next (stmts_view ss.items) (catch_view c) n
 mode_view (d.FinallyOpen ss c n) = m.finally_open (stmts_view ss.items) (catch_view c) n
 mode_view d.SwitchOpen = m.switch_open
-mode_view (d.SwitchBrace a) = m.switch_brace (expr_view a.expr) a.reach
-mode_view (d.ClauseNext e cs n) = m.clause_next (expr_view e) (clauses_view cs.items) n
-mode_view (d.CaseNumber e cs n) = m.case_number (expr_view e) (clauses_view cs.items) n
-mode_view (d.CaseColon e cs number n) = m.case_colon (expr_view e) (clauses_view cs.items) number n
+mode_view (d.SwitchBrace a) = m.switch_brace (expr_view a.expr.value) a.reach
+mode_view (d.ClauseNext e cs n) = m.clause_next (expr_view e.value) (clauses_view cs.items) n
+mode_view (d.CaseNumber e cs n) = m.case_number (expr_view e.value) (clauses_view cs.items) n
+mode_view (d.CaseColon e cs number n) = m.case_colon (expr_view e.value) (clauses_view cs.items) number n
 
 -- WHAT A TOKEN LEADS TO
 abbrev pub move_of : Step → List m.Frame → m.Move
@@ -185,12 +186,12 @@ move_of (s.Go mode) u = m.go (mode_view mode) u
 move_of s.Refused u = m.refuse
 
 abbrev pub settled_of : Operand → List Frame → m.Settled
-settled_of a s = m.settled (expr_view a.expr) a.reach (stack_view s)
+settled_of a s = m.settled (expr_view a.expr.value) a.reach (stack_view s)
 
 -- what one frame makes of an operand that ends
 abbrev pub bound_of : ℕ → Bound → List m.Frame → m.Settled
-bound_of l (b.Held a) s = m.settle l (expr_view a.expr) a.reach s
-bound_of l (b.Back frame a) s = m.settled (expr_view a.expr) a.reach (frame_view frame ∷ s)
+bound_of l (b.Held a) s = m.settle l (expr_view a.expr.value) a.reach s
+bound_of l (b.Back frame a) s = m.settled (expr_view a.expr.value) a.reach (frame_view frame ∷ s)
 
 -- THE END
 -- the statements of the program, where its list is a frame, and where it alone is open

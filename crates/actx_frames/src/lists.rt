@@ -20,15 +20,15 @@ pub fn count(list: &Vec<Expr>) -> usize
 
 /// A list with one expression more.
 #[tactic(auto, using(crate::proofs::ParseStack::one_more))]
-pub fn with_last(list: Vec<Expr>, last: Expr) -> Result<Vec<Expr>, NoMemory>
-    ensures { IfOk result (λ es. exprs_view es.items ≡ with_last (exprs_view list.items) (expr_view last)) }
+pub fn with_last(list: Vec<Expr>, last: Box<Expr>) -> Result<Vec<Expr>, NoMemory>
+    ensures { IfOk result (λ es. exprs_view es.items ≡ with_last (exprs_view list.items) (expr_view last.value)) }
 {
     let mut list = list;
-    list.push(last)?;
+    list.push(Box::into_inner(last))?;
     Ok(list)
 }
 
-fn let_item(name: Name, value: Option<Expr>) -> LetItem
+fn let_item(name: Name, value: Option<Box<Expr>>) -> LetItem
     ensures { let_view result ≡ (name, maybe_expr_view value) }
 {
     LetItem { name, value }
@@ -39,7 +39,7 @@ fn let_item(name: Name, value: Option<Expr>) -> LetItem
 pub fn with_let(
     list: Vec<LetItem>,
     name: Name,
-    value: Option<Expr>,
+    value: Option<Box<Expr>>,
 ) -> Result<Vec<LetItem>, NoMemory>
     ensures { IfOk result (λ is. lets_view is.items ≡ with_let (lets_view list.items) name (maybe_expr_view value)) }
 {
@@ -48,25 +48,31 @@ pub fn with_let(
     Ok(list)
 }
 
-fn const_item(name: Name, value: Expr) -> ConstItem
-    ensures { const_view result ≡ (name, expr_view value) }
+fn const_item(name: Name, value: Box<Expr>) -> ConstItem
+    ensures { const_view result ≡ (name, expr_view value.value) }
 {
+    let value = Box::into_inner(value);
     ConstItem { name, value }
 }
 
 /// A list with one item more.
 #[tactic(auto, using(crate::proofs::ParseStack::const_more))]
-pub fn with_const(list: Vec<ConstItem>, name: Name, value: Expr) -> Result<Vec<ConstItem>, NoMemory>
-    ensures { IfOk result (λ is. consts_view is.items ≡ with_const (consts_view list.items) name (expr_view value)) }
+pub fn with_const(
+    list: Vec<ConstItem>,
+    name: Name,
+    value: Box<Expr>,
+) -> Result<Vec<ConstItem>, NoMemory>
+    ensures { IfOk result (λ is. consts_view is.items ≡ with_const (consts_view list.items) name (expr_view value.value)) }
 {
     let mut list = list;
     list.push(const_item(name, value))?;
     Ok(list)
 }
 
-fn property(key: PropKey, value: Expr) -> Property
-    ensures { property_view result ≡ (prop_key_view key, expr_view value) }
+fn property(key: PropKey, value: Box<Expr>) -> Property
+    ensures { property_view result ≡ (prop_key_view key, expr_view value.value) }
 {
+    let value = Box::into_inner(value);
     Property { key, value }
 }
 
@@ -75,9 +81,9 @@ fn property(key: PropKey, value: Expr) -> Property
 pub fn with_property(
     list: Vec<Property>,
     key: PropKey,
-    value: Expr,
+    value: Box<Expr>,
 ) -> Result<Vec<Property>, NoMemory>
-    ensures { IfOk result (λ ps. properties_view ps.items ≡ with_property (properties_view list.items) (prop_key_view key) (expr_view value)) }
+    ensures { IfOk result (λ ps. properties_view ps.items ≡ with_property (properties_view list.items) (prop_key_view key) (expr_view value.value)) }
 {
     let mut list = list;
     list.push(property(key, value))?;
@@ -86,11 +92,11 @@ pub fn with_property(
 
 /// A list with one statement more.
 #[tactic(auto, using(crate::proofs::ParseStack::stmt_more))]
-pub fn with_stmt(list: Vec<Stmt>, last: Stmt) -> Result<Vec<Stmt>, NoMemory>
-    ensures { IfOk result (λ ss. stmts_view ss.items ≡ with_stmt (stmts_view list.items) (stmt_view last)) }
+pub fn with_stmt(list: Vec<Stmt>, last: Box<Stmt>) -> Result<Vec<Stmt>, NoMemory>
+    ensures { IfOk result (λ ss. stmts_view ss.items ≡ with_stmt (stmts_view list.items) (stmt_view last.value)) }
 {
     let mut list = list;
-    list.push(last)?;
+    list.push(Box::into_inner(last))?;
     Ok(list)
 }
 

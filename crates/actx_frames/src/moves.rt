@@ -21,17 +21,31 @@ pub fn go_if(test: bool, mode: Mode) -> Step
 }
 
 /// What is behind an operand.
-pub fn have(expr: Expr, reach: usize) -> Step
-    ensures { (s : List Held) → move_of result s ≡ go (have (expr_view expr) reach) s }
+pub fn have(expr: Box<Expr>, reach: usize) -> Step
+    ensures { (s : List Held) → move_of result s ≡ go (have (expr_view expr.value) reach) s }
 {
     Step::Go(Mode::Have(Operand { expr, reach }))
 }
 
+/// What is behind an operand that is made now.
+pub fn have_new(alloc: Global, expr: Expr, reach: usize) -> Result<Step, NoMemory>
+    ensures { IfOk result (λ r. (s : List Held) → move_of r s ≡ go (have (expr_view expr) reach) s) }
+{
+    Ok(have(Box::new(alloc, expr)?, reach))
+}
+
 /// What is behind a statement.
-pub fn ended(stmt: Stmt, reach: usize) -> Step
-    ensures { (s : List Held) → move_of result s ≡ ended (stmt_view stmt) reach s }
+pub fn ended(stmt: Box<Stmt>, reach: usize) -> Step
+    ensures { (s : List Held) → move_of result s ≡ ended (stmt_view stmt.value) reach s }
 {
     Step::Go(Mode::HaveStmt(stmt, reach))
+}
+
+/// What is behind a statement that is made now.
+pub fn ended_new(alloc: Global, stmt: Stmt, reach: usize) -> Result<Step, NoMemory>
+    ensures { IfOk result (λ r. (s : List Held) → move_of r s ≡ ended (stmt_view stmt) reach s) }
+{
+    Ok(ended(Box::new(alloc, stmt)?, reach))
 }
 
 /// An operand is wanted on one more frame.

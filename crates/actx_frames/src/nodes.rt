@@ -14,19 +14,19 @@ use std::cmp::max;
 
 /// A prefix operator on an operand.
 pub fn unary(alloc: Global, op: UnaryOp, held: Operand) -> Result<Operand, NoMemory>
-    ensures { IfOk result (λ o. (expr_view o.expr ≡ Unary op (expr_view held.expr)) × (o.reach ≡ held.reach)) }
+    ensures { IfOk result (λ o. (expr_view o.expr.value ≡ Unary op (expr_view held.expr.value)) × (o.reach ≡ held.reach)) }
 {
     let Operand { expr, reach } = held;
-    let expr = Expr::Unary(op, Box::new(alloc, expr)?);
+    let expr = Box::new(alloc, Expr::Unary(op, expr))?;
     Ok(Operand { expr, reach })
 }
 
 /// `await e`
 pub fn awaited(alloc: Global, held: Operand) -> Result<Operand, NoMemory>
-    ensures { IfOk result (λ o. (expr_view o.expr ≡ Awaited (expr_view held.expr)) × (o.reach ≡ held.reach)) }
+    ensures { IfOk result (λ o. (expr_view o.expr.value ≡ Awaited (expr_view held.expr.value)) × (o.reach ≡ held.reach)) }
 {
     let Operand { expr, reach } = held;
-    let expr = Expr::Await(Box::new(alloc, expr)?);
+    let expr = Box::new(alloc, Expr::Await(expr))?;
     Ok(Operand { expr, reach })
 }
 
@@ -37,90 +37,90 @@ pub fn binary(
     left: Operand,
     right: Operand,
 ) -> Result<Operand, NoMemory>
-    ensures { IfOk result (λ o. (expr_view o.expr ≡ Binary op (expr_view left.expr) (expr_view right.expr)) × (o.reach ≡ max left.reach right.reach)) }
+    ensures { IfOk result (λ o. (expr_view o.expr.value ≡ Binary op (expr_view left.expr.value) (expr_view right.expr.value)) × (o.reach ≡ max left.reach right.reach)) }
 {
     let reach = max(left.reach, right.reach);
-    let first = Box::new(alloc, left.expr)?;
-    let expr = Expr::Binary(op, first, Box::new(alloc, right.expr)?);
+    let expr = Box::new(alloc, Expr::Binary(op, left.expr, right.expr))?;
     Ok(Operand { expr, reach })
 }
 
 /// `&&`, `||` or `??` between two operands.
 pub fn logic(alloc: Global, op: LogicOp, left: Operand, right: Operand) -> Result<Operand, NoMemory>
-    ensures { IfOk result (λ o. (expr_view o.expr ≡ Logic op (expr_view left.expr) (expr_view right.expr)) × (o.reach ≡ max left.reach right.reach)) }
+    ensures { IfOk result (λ o. (expr_view o.expr.value ≡ Logic op (expr_view left.expr.value) (expr_view right.expr.value)) × (o.reach ≡ max left.reach right.reach)) }
 {
     let reach = max(left.reach, right.reach);
-    let first = Box::new(alloc, left.expr)?;
-    let expr = Expr::Logic(op, first, Box::new(alloc, right.expr)?);
+    let expr = Box::new(alloc, Expr::Logic(op, left.expr, right.expr))?;
     Ok(Operand { expr, reach })
 }
 
 /// `test ? yes : no`
-pub fn choice(alloc: Global, test: Expr, yes: Operand, no: Operand) -> Result<Operand, NoMemory>
-    ensures { IfOk result (λ o. (expr_view o.expr ≡ Choice (expr_view test) (expr_view yes.expr) (expr_view no.expr)) × (o.reach ≡ max yes.reach no.reach)) }
+pub fn choice(
+    alloc: Global,
+    test: Box<Expr>,
+    yes: Operand,
+    no: Operand,
+) -> Result<Operand, NoMemory>
+    ensures { IfOk result (λ o. (expr_view o.expr.value ≡ Choice (expr_view test.value) (expr_view yes.expr.value) (expr_view no.expr.value)) × (o.reach ≡ max yes.reach no.reach)) }
 {
     let reach = max(yes.reach, no.reach);
-    let test = Box::new(alloc, test)?;
-    let first = Box::new(alloc, yes.expr)?;
-    let expr = Expr::Choice(test, first, Box::new(alloc, no.expr)?);
+    let expr = Box::new(alloc, Expr::Choice(test, yes.expr, no.expr))?;
     Ok(Operand { expr, reach })
 }
 
 /// `a = e`
 pub fn set_name(alloc: Global, name: Name, value: Operand) -> Result<Operand, NoMemory>
-    ensures { IfOk result (λ o. (expr_view o.expr ≡ SetName name (expr_view value.expr)) × (o.reach ≡ value.reach)) }
+    ensures { IfOk result (λ o. (expr_view o.expr.value ≡ SetName name (expr_view value.expr.value)) × (o.reach ≡ value.reach)) }
 {
     let Operand { expr, reach } = value;
-    let expr = Expr::SetName(name, Box::new(alloc, expr)?);
+    let expr = Box::new(alloc, Expr::SetName(name, expr))?;
     Ok(Operand { expr, reach })
 }
 
 /// `a.b = e` or `a[b] = e`
 pub fn set_member(
     alloc: Global,
-    base: Expr,
+    base: Box<Expr>,
     key: Key,
     reach: usize,
     value: Operand,
 ) -> Result<Operand, NoMemory>
-    ensures { IfOk result (λ o. (expr_view o.expr ≡ SetMember (expr_view base) (key_view key) (expr_view value.expr)) × (o.reach ≡ max reach value.reach)) }
+    ensures { IfOk result (λ o. (expr_view o.expr.value ≡ SetMember (expr_view base.value) (key_view key) (expr_view value.expr.value)) × (o.reach ≡ max reach value.reach)) }
 {
     let reach = max(reach, value.reach);
-    let base = Box::new(alloc, base)?;
-    let expr = Expr::SetMember(base, key, Box::new(alloc, value.expr)?);
+    let expr = Box::new(alloc, Expr::SetMember(base, key, value.expr))?;
     Ok(Operand { expr, reach })
 }
 
 /// `a += e` or its like
 pub fn change(alloc: Global, name: Name, op: BinaryOp, value: Operand) -> Result<Operand, NoMemory>
-    ensures { IfOk result (λ o. (expr_view o.expr ≡ Change name op (expr_view value.expr)) × (o.reach ≡ value.reach)) }
+    ensures { IfOk result (λ o. (expr_view o.expr.value ≡ Change name op (expr_view value.expr.value)) × (o.reach ≡ value.reach)) }
 {
     let Operand { expr, reach } = value;
-    let expr = Expr::Change(name, op, Box::new(alloc, expr)?);
+    let expr = Box::new(alloc, Expr::Change(name, op, expr))?;
     Ok(Operand { expr, reach })
 }
 
-fn some(alloc: Global, expr: Expr) -> Result<Option<Box<Expr>>, NoMemory>
-    ensures { IfOk result (λ o. maybe_expr (option_map (λ b. expr_view b.value) o) ≡ some_expr (expr_view expr)) }
+fn some(expr: Box<Expr>) -> Option<Box<Expr>>
+    ensures { maybe_expr (option_map (λ b. expr_view b.value) result) ≡ some_expr (expr_view expr.value) }
 {
-    Ok(Some(Box::new(alloc, expr)?))
+    Some(expr)
 }
 
 /// `yield e`
 pub fn yielded(alloc: Global, held: Operand) -> Result<Operand, NoMemory>
-    ensures { IfOk result (λ o. (expr_view o.expr ≡ Yielded (some_expr (expr_view held.expr))) × (o.reach ≡ held.reach)) }
+    ensures { IfOk result (λ o. (expr_view o.expr.value ≡ Yielded (some_expr (expr_view held.expr.value))) × (o.reach ≡ held.reach)) }
 {
     let Operand { expr, reach } = held;
-    let expr = Expr::Yield(some(alloc, expr)?);
+    let expr = Box::new(alloc, Expr::Yield(some(expr)))?;
     Ok(Operand { expr, reach })
 }
 
 /// `yield* e`
 pub fn yielded_all(alloc: Global, held: Operand) -> Result<Operand, NoMemory>
-    ensures { IfOk result (λ o. (expr_view o.expr ≡ YieldAll (expr_view held.expr)) × (o.reach ≡ held.reach)) }
+    ensures { IfOk result (λ o. (expr_view o.expr.value ≡ YieldAll (expr_view held.expr.value)) × (o.reach ≡ held.reach)) }
 {
     let Operand { expr, reach } = held;
-    let expr = Expr::YieldAll(Box::new(alloc, expr)?);
+    let expr = Box::new(alloc, Expr::YieldAll(expr))?;
     Ok(Operand { expr, reach })
 }
 
@@ -143,23 +143,23 @@ pub fn function(
     kind: FunctionKind,
     params: Vec<Name>,
     body: Vec<Stmt>,
-) -> Result<Expr, NoMemory>
-    ensures { IfOk result (λ e. expr_view e ≡ Functional (code name kind params.items (stmts_view body.items))) }
+) -> Result<Box<Expr>, NoMemory>
+    ensures { IfOk result (λ e. expr_view e.value ≡ Functional (code name kind params.items (stmts_view body.items))) }
 {
-    let function = code(name, kind, params, body);
-    Ok(Expr::Function(Box::new(alloc, function)?))
+    let function = Box::new(alloc, code(name, kind, params, body))?;
+    Ok(Box::new(alloc, Expr::Function(function))?)
 }
 
 /// A statement that returns a value.
-pub fn returning(value: Expr) -> Stmt
-    ensures { stmt_view result ≡ Return (some_expr (expr_view value)) }
+pub fn returning(value: Box<Expr>) -> Stmt
+    ensures { stmt_view result ≡ Return (some_expr (expr_view value.value)) }
 {
-    Stmt::Return(Some(value))
+    Stmt::Return(some(value))
 }
 
 /// The list of one statement that returns a value.
-fn returns(alloc: Global, value: Expr) -> Result<Vec<Stmt>, NoMemory>
-    ensures { IfOk result (λ ss. stmts_view ss.items ≡ next (Return (some_expr (expr_view value))) end) }
+fn returns(alloc: Global, value: Box<Expr>) -> Result<Vec<Stmt>, NoMemory>
+    ensures { IfOk result (λ ss. stmts_view ss.items ≡ next (Return (some_expr (expr_view value.value))) end) }
 {
     let mut body = Vec::new(alloc);
     body.push(returning(value))?;
@@ -173,7 +173,7 @@ pub fn arrow(
     params: Vec<Name>,
     value: Operand,
 ) -> Result<Operand, NoMemory>
-    ensures { IfOk result (λ o. (expr_view o.expr ≡ Functional (code None kind params.items (next (Return (some_expr (expr_view value.expr))) end))) × (o.reach ≡ value.reach)) }
+    ensures { IfOk result (λ o. (expr_view o.expr.value ≡ Functional (code None kind params.items (next (Return (some_expr (expr_view value.expr.value))) end))) × (o.reach ≡ value.reach)) }
 {
     let Operand { expr, reach } = value;
     let body = returns(alloc, expr)?;
@@ -182,15 +182,15 @@ pub fn arrow(
 }
 
 /// A member that is read.
-pub fn member(alloc: Global, base: Expr, key: Key) -> Result<Expr, NoMemory>
-    ensures { IfOk result (λ e. expr_view e ≡ Member (expr_view base) (key_view key)) }
+pub fn member(alloc: Global, base: Box<Expr>, key: Key) -> Result<Box<Expr>, NoMemory>
+    ensures { IfOk result (λ e. expr_view e.value ≡ Member (expr_view base.value) (key_view key)) }
 {
-    Ok(Expr::Member(Box::new(alloc, base)?, key))
+    Ok(Box::new(alloc, Expr::Member(base, key))?)
 }
 
 /// A call.
-pub fn call(alloc: Global, callee: Expr, args: Vec<Expr>) -> Result<Expr, NoMemory>
-    ensures { IfOk result (λ e. expr_view e ≡ Call (expr_view callee) (exprs_view args.items)) }
+pub fn call(alloc: Global, callee: Box<Expr>, args: Vec<Expr>) -> Result<Box<Expr>, NoMemory>
+    ensures { IfOk result (λ e. expr_view e.value ≡ Call (expr_view callee.value) (exprs_view args.items)) }
 {
-    Ok(Expr::Call(Box::new(alloc, callee)?, args))
+    Ok(Box::new(alloc, Expr::Call(callee, args))?)
 }

@@ -11,7 +11,7 @@ ghost use Rattle.actx_frames.specs.ParserView.{bounds, frame_view, move_of, stac
 use super::forms::{first_word, suits};
 use super::limits::{Rules, begins_statement, fits, fits_below, has_room, is_source, takes_whole};
 use super::lists::count;
-use super::moves::{go_if, have, need_if};
+use super::moves::{go_if, have, have_new, need_if};
 use super::nodes::call;
 use super::stack::Stack;
 use super::state::{Frame, Mode, Operand, Role, Step};
@@ -31,11 +31,11 @@ fn prefix(rules: Rules, op: UnaryOp, stack: &mut Stack) -> Result<Step, NoMemory
 }
 
 /// A number.
-fn number_operand(rules: Rules, n: u64, stack: &mut Stack) -> Step
-    ensures { operand (bounds rules) rules.side (stack_view stack.old) (TokenKind.Number n) ≡ move_of result (stack_view stack.new) }
+fn number_operand(alloc: Global, rules: Rules, n: u64, stack: &mut Stack) -> Result<Step, NoMemory>
+    ensures { IfOk result (λ r. operand (bounds rules) rules.side (stack_view stack.old) (TokenKind.Number n) ≡ move_of r (stack_view stack.new)) }
 {
     let reach = stack.here();
-    have(Expr::Num(n), reach)
+    have_new(alloc, Expr::Num(n), reach)
 }
 
 /// A text.
@@ -49,7 +49,7 @@ fn text_operand(
 {
     let reach = stack.here();
     let units = units.copy(alloc)?;
-    Ok(have(Expr::Text(units), reach))
+    have_new(alloc, Expr::Text(units), reach)
 }
 
 /// A name, which is a reference or begins a form.
@@ -81,10 +81,10 @@ fn key_operand(
     ensures { IfOk result (λ r. key_operand (bounds rules) rules.side (stack_view stack.old) keyword ≡ move_of r (stack_view stack.new)) }
 {
     match keyword {
-        Keyword::This => Ok(have(Expr::This, stack.here())),
-        Keyword::True => Ok(have(Expr::Truth(true), stack.here())),
-        Keyword::False => Ok(have(Expr::Truth(false), stack.here())),
-        Keyword::Null => Ok(have(Expr::Null, stack.here())),
+        Keyword::This => Ok(have_new(alloc, Expr::This, stack.here())?),
+        Keyword::True => Ok(have_new(alloc, Expr::Truth(true), stack.here())?),
+        Keyword::False => Ok(have_new(alloc, Expr::Truth(false), stack.here())?),
+        Keyword::Null => Ok(have_new(alloc, Expr::Null, stack.here())?),
         Keyword::New => first_word(alloc, rules, &TokenKind::Keyword(Keyword::New), stack),
         Keyword::Function => {
             let mode = Mode::FunctionNext(Role::Expression);
@@ -158,7 +158,7 @@ fn operand(
     ensures { IfOk result (λ r. operand (bounds rules) rules.side (stack_view stack.old) token.now ≡ move_of r (stack_view stack.new)) }
 {
     match token {
-        TokenKind::Number(n) => Ok(number_operand(rules, *n, stack)),
+        TokenKind::Number(n) => Ok(number_operand(alloc, rules, *n, stack)?),
         TokenKind::Text(units) => Ok(text_operand(alloc, rules, units, stack)?),
         TokenKind::Name(name) => name_operand(alloc, rules, name, token, stack),
         TokenKind::Keyword(keyword) => key_operand(alloc, rules, *keyword, stack),
@@ -167,12 +167,17 @@ fn operand(
 }
 
 /// A form with these parts, where it takes so many.
-pub fn close_form(form: Form, parts: Vec<Expr>, reach: usize) -> Step
-    ensures { (s : List Held) → go_if (suits form (count (exprs_view parts.items))) (have (Built form (exprs_view parts.items)) reach) s ≡ move_of result s }
+pub fn close_form(
+    alloc: Global,
+    form: Form,
+    parts: Vec<Expr>,
+    reach: usize,
+) -> Result<Step, NoMemory>
+    ensures { IfOk result (λ r. (s : List Held) → go_if (suits form (count (exprs_view parts.items))) (have (Built form (exprs_view parts.items)) reach) s ≡ move_of r s) }
 {
     let fitting = suits(form, count(&parts));
-    let expr = Expr::Form(form, parts);
-    go_if(fitting, Mode::Have(Operand { expr, reach }))
+    let expr = Box::new(alloc, Expr::Form(form, parts))?;
+    Ok(go_if(fitting, Mode::Have(Operand { expr, reach })))
 }
 
 /// No further argument stands on a frame before the closing parenthesis.
@@ -181,7 +186,7 @@ fn close_arguments_on(alloc: Global, frame: Frame) -> Result<Step, NoMemory>
 {
     match frame {
         Frame::Call(callee, args, reach) => Ok(have(call(alloc, callee, args)?, reach)),
-        Frame::Form(form, parts, reach) => Ok(close_form(form, parts, reach)),
+        Frame::Form(form, parts, reach) => Ok(close_form(alloc, form, parts, reach)?),
         other => {
             drop(other);
             Ok(Step::Refused)
@@ -258,7 +263,8 @@ pub fn at_bump_name(
             let fitting = is_binding(rules.side, name);
             let name = name.copy(alloc)?;
             let before = true;
-            Ok(go_if(fitting, Mode::HaveBump(Expr::Bump { name, up, before })))
+            let expr = Box::new(alloc, Expr::Bump { name, up, before })?;
+            Ok(go_if(fitting, Mode::HaveBump(expr)))
         }
         TokenKind::Keyword(_) => Ok(Step::Refused),
         TokenKind::Number(_) => Ok(Step::Refused),

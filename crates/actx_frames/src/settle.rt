@@ -24,7 +24,7 @@ pub enum Bound {
 
 /// An operand on a frame, which ends it where the frame binds at the level at least.
 fn bind(alloc: Global, level: u8, frame: Frame, held: Operand) -> Result<Bound, NoMemory>
-    ensures { IfOk result (λ b. (s : List Held) → settle level (expr_view held.expr) held.reach (frame_view frame ∷ s) ≡ bound_of level b s) }
+    ensures { IfOk result (λ b. (s : List Held) → settle level (expr_view held.expr.value) held.reach (frame_view frame ∷ s) ≡ bound_of level b s) }
 {
     match frame {
         Frame::Unary(op) => {
@@ -116,7 +116,7 @@ pub fn settle(
     operand: Operand,
     stack: &mut Stack,
 ) -> Result<Operand, NoMemory>
-    ensures { IfOk result (λ held. settle level (expr_view operand.expr) operand.reach (stack_view stack.old) ≡ settled_of held stack.new) }
+    ensures { IfOk result (λ held. settle level (expr_view operand.expr.value) operand.reach (stack_view stack.old) ≡ settled_of held stack.new) }
 {
     let mut held = operand;
     while let Some(frame) = stack.pop() {

@@ -10,7 +10,7 @@ use actx_grammar::token::TokenKind;
 /// An expression, and the depth of its deepest part in the whole text.
 #[derive(Drop)]
 pub struct Operand {
-    pub expr: Expr,
+    pub expr: Box<Expr>,
     pub reach: usize,
 }
 
@@ -50,7 +50,7 @@ pub enum ListOwner {
     /// The `finally` part behind a block and its `catch` part.
     Finally(Vec<Stmt>, Option<Catcher>),
     /// A clause of a `switch`, behind others.
-    Clause(Expr, Vec<Clause>, Option<u64>),
+    Clause(Box<Expr>, Vec<Clause>, Option<u64>),
 }
 
 /// What is open; the numbers are the reach of all that is held.
@@ -64,14 +64,14 @@ pub enum Frame {
     /// A test, behind which `?` stands.
     Choice(Operand),
     /// A test and what stands before `:`.
-    Other(Expr, Operand),
+    Other(Box<Expr>, Operand),
     Paren,
     /// What is called, and the arguments so far.
-    Call(Expr, Vec<Expr>, usize),
+    Call(Box<Expr>, Vec<Expr>, usize),
     Form(Form, Vec<Expr>, usize),
     /// What is set to the value that follows.
     SetName(Name),
-    Set(Expr, Key, usize),
+    Set(Box<Expr>, Key, usize),
     Change(Name, BinaryOp),
     /// What a key in brackets is read of.
     Index(Operand),
@@ -93,20 +93,20 @@ pub enum Frame {
     If,
     While,
     /// The test of a `do` with this body.
-    DoTest(Stmt, usize),
+    DoTest(Box<Stmt>, usize),
     ForInit,
     ForTest(ForInit, usize),
-    ForUpdate(ForInit, Option<Expr>, usize),
+    ForUpdate(ForInit, Option<Box<Expr>>, usize),
     /// What a `for` goes over: whether its name is constant, and that name.
     ForOver(bool, Name),
     Switch,
     /// The statement behind the test of an `if`.
     YesOf(Operand),
     /// The statement behind `else`.
-    NoOf(Expr, Stmt, usize),
+    NoOf(Box<Expr>, Box<Stmt>, usize),
     WhileOf(Operand),
     DoOf,
-    ForBody(ForInit, Option<Expr>, Option<Expr>, usize),
+    ForBody(ForInit, Option<Box<Expr>>, Option<Box<Expr>>, usize),
     ForOfBody(bool, Name, Operand),
     /// The statements of a list so far.
     List(ListOwner, Vec<Stmt>, usize),
@@ -120,17 +120,17 @@ pub enum Mode {
     /// A statement that is no declaration.
     BodyStart,
     /// What may stand behind a statement.
-    HaveStmt(Stmt, usize),
+    HaveStmt(Box<Stmt>, usize),
     /// An operand.
     Need,
     /// Something behind an operand.
     Have(Operand),
     /// Something behind a member, which might be set.
-    HaveMember(Expr, Key, usize),
+    HaveMember(Box<Expr>, Key, usize),
     /// Something behind a name, which might be a parameter.
     HaveName(Name),
     /// Something behind `++` and `--` with their name.
-    HaveBump(Expr),
+    HaveBump(Box<Expr>),
     /// Something behind an expression that no operator goes on.
     Whole(Operand),
     /// Something behind a parenthesis where an operand begins.
@@ -178,18 +178,18 @@ pub enum Mode {
     ConstName(ItemsOf, Vec<ConstItem>, usize),
     ConstBehind(ItemsOf, Vec<ConstItem>, Name, usize),
     /// The semicolon behind `break` and its like.
-    JumpEnd(Stmt),
+    JumpEnd(Box<Stmt>),
     ReturnNext,
     ThrowNext,
     IfOpen,
     WhileOpen,
     /// `while` behind the body of a `do`.
-    DoWhile(Stmt, usize),
-    DoEnd(Stmt, Expr, usize),
+    DoWhile(Box<Stmt>, usize),
+    DoEnd(Box<Stmt>, Box<Expr>, usize),
     ForOpen,
     ForNext,
     ForTest(ForInit, usize),
-    ForUpdate(ForInit, Option<Expr>, usize),
+    ForUpdate(ForInit, Option<Box<Expr>>, usize),
     TryOpen,
     CatchNext(Vec<Stmt>, usize),
     CatchOpen(Vec<Stmt>, usize),
@@ -200,9 +200,9 @@ pub enum Mode {
     FinallyOpen(Vec<Stmt>, Option<Catcher>, usize),
     SwitchOpen,
     SwitchBrace(Operand),
-    ClauseNext(Expr, Vec<Clause>, usize),
-    CaseNumber(Expr, Vec<Clause>, usize),
-    CaseColon(Expr, Vec<Clause>, Option<u64>, usize),
+    ClauseNext(Box<Expr>, Vec<Clause>, usize),
+    CaseNumber(Box<Expr>, Vec<Clause>, usize),
+    CaseColon(Box<Expr>, Vec<Clause>, Option<u64>, usize),
 }
 
 /// What a token leads to.

@@ -65,12 +65,13 @@ pub fn is_binding(side: Side, name: &Name) -> bool
 }
 
 /// A name that is an expression.
-pub fn named(alloc: Global, name: &Name) -> Result<Expr, NoMemory>
-    ensures { IfOk result (λ e. expr_view e ≡ named name.now) }
+pub fn named(alloc: Global, name: &Name) -> Result<Box<Expr>, NoMemory>
+    ensures { IfOk result (λ e. expr_view e.value ≡ named name.now) }
 {
     if is_word(name, b"undefined") {
-        Ok(Expr::Undefined)
+        Ok(Box::new(alloc, Expr::Undefined)?)
     } else {
-        Ok(Expr::Named(name.copy(alloc)?))
+        let name = name.copy(alloc)?;
+        Ok(Box::new(alloc, Expr::Named(name))?)
     }
 }

@@ -13,7 +13,7 @@ use actx_data::{NoMemory, Units};
 use actx_grammar::name::Name;
 use actx_grammar::operators::{Form, FunctionKind};
 use functions::{find_body, get_body, make_body, run_body, variable_body, with_body};
-use shapes::{and_name, both, constant, property, then, units};
+use shapes::{and_name, both, constant, evaluated, property, then, units};
 use std::alloc::Global;
 
 /// A function of these parameters.
@@ -100,7 +100,7 @@ fn variable_function(alloc: Global) -> Result<Expr, NoMemory>
 fn use_strict(alloc: Global) -> Result<Stmt, NoMemory>
     ensures { IfOk result (λ s. stmt_view s ≡ t.Value (t.Text (codes "use strict"))) }
 {
-    Ok(Stmt::Value(Expr::Text(units(alloc, b"use strict")?)))
+    evaluated(alloc, Expr::Text(units(alloc, b"use strict")?))
 }
 
 /// The states of variables: a WeakMap.

@@ -98,8 +98,8 @@ fn exprs_end(at: u64, es: &Vec<Expr>) -> Result<u64, NoMemory>
 
 /// The number behind an expression, where there is one.
 #[cycle(count)]
-pub fn maybe_end(at: u64, e: &Option<Expr>) -> Result<u64, NoMemory>
-    ensures { IfOk result (λ end. end ≡ at + maybe_nodes (maybe_expr (option_map expr_view e.now))) }
+pub fn maybe_end(at: u64, e: &Option<Box<Expr>>) -> Result<u64, NoMemory>
+    ensures { IfOk result (λ end. end ≡ at + maybe_nodes (maybe_expr (option_map (λ b. expr_view b.value) e.now))) }
 {
     match e {
         None => Ok(at),

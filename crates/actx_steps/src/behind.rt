@@ -39,7 +39,7 @@ fn at_binary(
     operand: Operand,
     stack: &mut Stack,
 ) -> Result<Step, NoMemory>
-    ensures { IfOk result (λ r. binary (bounds rules) op (settle (level_of op) (expr_view operand.expr) operand.reach (stack_view stack.old)) ≡ move_of r (stack_view stack.new)) }
+    ensures { IfOk result (λ r. binary (bounds rules) op (settle (level_of op) (expr_view operand.expr.value) operand.reach (stack_view stack.old)) ≡ move_of r (stack_view stack.new)) }
 {
     let left = settle(alloc, level_of(op), operand, stack)?;
     binary(rules, op, left, stack)
@@ -87,7 +87,7 @@ fn at_logic(
     operand: Operand,
     stack: &mut Stack,
 ) -> Result<Step, NoMemory>
-    ensures { IfOk result (λ r. at_logic (bounds rules) op (logic_level op) (expr_view operand.expr) operand.reach (stack_view stack.old) ≡ move_of r (stack_view stack.new)) }
+    ensures { IfOk result (λ r. at_logic (bounds rules) op (logic_level op) (expr_view operand.expr.value) operand.reach (stack_view stack.old) ≡ move_of r (stack_view stack.new)) }
 {
     let held = settle(alloc, tighter(op), operand, stack)?;
     if mixes(op, stack) {
@@ -114,7 +114,7 @@ fn at_choice(
     operand: Operand,
     stack: &mut Stack,
 ) -> Result<Step, NoMemory>
-    ensures { IfOk result (λ r. choice (bounds rules) (settle 3 (expr_view operand.expr) operand.reach (stack_view stack.old)) ≡ move_of r (stack_view stack.new)) }
+    ensures { IfOk result (λ r. choice (bounds rules) (settle 3 (expr_view operand.expr.value) operand.reach (stack_view stack.old)) ≡ move_of r (stack_view stack.new)) }
 {
     let test = settle(alloc, 3, operand, stack)?;
     choice(rules, test, stack)
@@ -130,7 +130,7 @@ fn operator_sign(
     stack: &mut Stack,
 ) -> Result<Step, NoMemory>
     requires { token.now ≡ TokenKind.Sign sign }
-    ensures { IfOk result (λ r. at_operator (bounds rules) (expr_view operand.expr) operand.reach (stack_view stack.old) (TokenKind.Sign sign) ≡ move_of r (stack_view stack.new)) }
+    ensures { IfOk result (λ r. at_operator (bounds rules) (expr_view operand.expr.value) operand.reach (stack_view stack.old) (TokenKind.Sign sign) ≡ move_of r (stack_view stack.new)) }
 {
     match sign {
         Sign::Plus => at_binary(alloc, rules, BinaryOp::Add, operand, stack),
@@ -158,7 +158,7 @@ pub fn at_operator(
     token: &TokenKind,
     stack: &mut Stack,
 ) -> Result<Step, NoMemory>
-    ensures { IfOk result (λ r. at_operator (bounds rules) (expr_view operand.expr) operand.reach (stack_view stack.old) token.now ≡ move_of r (stack_view stack.new)) }
+    ensures { IfOk result (λ r. at_operator (bounds rules) (expr_view operand.expr.value) operand.reach (stack_view stack.old) token.now ≡ move_of r (stack_view stack.new)) }
 {
     match token {
         TokenKind::Sign(sign) => operator_sign(alloc, rules, operand, *sign, token, stack),
@@ -176,7 +176,7 @@ fn have_sign(
     stack: &mut Stack,
 ) -> Result<Step, NoMemory>
     requires { token.now ≡ TokenKind.Sign sign }
-    ensures { IfOk result (λ r. at_have (bounds rules) (expr_view operand.expr) operand.reach (stack_view stack.old) (TokenKind.Sign sign) ≡ move_of r (stack_view stack.new)) }
+    ensures { IfOk result (λ r. at_have (bounds rules) (expr_view operand.expr.value) operand.reach (stack_view stack.old) (TokenKind.Sign sign) ≡ move_of r (stack_view stack.new)) }
 {
     match sign {
         Sign::Dot => dot(rules, operand, stack),
@@ -188,7 +188,7 @@ fn have_sign(
 
 /// The word behind a dot follows.
 fn dot(rules: Rules, operand: Operand, stack: &mut Stack) -> Result<Step, NoMemory>
-    ensures { IfOk result (λ r. at_have (bounds rules) (expr_view operand.expr) operand.reach (stack_view stack.old) (TokenKind.Sign Sign.Dot) ≡ move_of r (stack_view stack.new)) }
+    ensures { IfOk result (λ r. at_have (bounds rules) (expr_view operand.expr.value) operand.reach (stack_view stack.old) (TokenKind.Sign Sign.Dot) ≡ move_of r (stack_view stack.new)) }
 {
     let _unchanged = stack.here(); // this read tells the proof that the stack stays
     let Operand { expr, reach } = operand;
@@ -199,7 +199,7 @@ fn dot(rules: Rules, operand: Operand, stack: &mut Stack) -> Result<Step, NoMemo
 
 /// A key in brackets follows.
 fn open_index(rules: Rules, operand: Operand, stack: &mut Stack) -> Result<Step, NoMemory>
-    ensures { IfOk result (λ r. at_have (bounds rules) (expr_view operand.expr) operand.reach (stack_view stack.old) (TokenKind.Sign Sign.OpenBracket) ≡ move_of r (stack_view stack.new)) }
+    ensures { IfOk result (λ r. at_have (bounds rules) (expr_view operand.expr.value) operand.reach (stack_view stack.old) (TokenKind.Sign Sign.OpenBracket) ≡ move_of r (stack_view stack.new)) }
 {
     let Operand { expr, reach } = operand;
     let test = fits_deeper(rules, reach);
@@ -214,7 +214,7 @@ fn open_call(
     operand: Operand,
     stack: &mut Stack,
 ) -> Result<Step, NoMemory>
-    ensures { IfOk result (λ r. at_have (bounds rules) (expr_view operand.expr) operand.reach (stack_view stack.old) (TokenKind.Sign Sign.OpenParen) ≡ move_of r (stack_view stack.new)) }
+    ensures { IfOk result (λ r. at_have (bounds rules) (expr_view operand.expr.value) operand.reach (stack_view stack.old) (TokenKind.Sign Sign.OpenParen) ≡ move_of r (stack_view stack.new)) }
 {
     let Operand { expr, reach } = operand;
     let test = fits_deeper(rules, reach);
@@ -230,7 +230,7 @@ pub fn at_have(
     token: &TokenKind,
     stack: &mut Stack,
 ) -> Result<Step, NoMemory>
-    ensures { IfOk result (λ r. at_have (bounds rules) (expr_view operand.expr) operand.reach (stack_view stack.old) token.now ≡ move_of r (stack_view stack.new)) }
+    ensures { IfOk result (λ r. at_have (bounds rules) (expr_view operand.expr.value) operand.reach (stack_view stack.old) token.now ≡ move_of r (stack_view stack.new)) }
 {
     match token {
         TokenKind::Sign(sign) => have_sign(alloc, rules, operand, *sign, token, stack),
@@ -242,13 +242,13 @@ pub fn at_have(
 pub fn at_member(
     alloc: Global,
     rules: Rules,
-    base: Expr,
+    base: Box<Expr>,
     key: Key,
     reach: usize,
     token: &TokenKind,
     stack: &mut Stack,
 ) -> Result<Step, NoMemory>
-    ensures { IfOk result (λ r. at_member (bounds rules) (expr_view base) (key_view key) reach (stack_view stack.old) token.now ≡ move_of r (stack_view stack.new)) }
+    ensures { IfOk result (λ r. at_member (bounds rules) (expr_view base.value) (key_view key) reach (stack_view stack.old) token.now ≡ move_of r (stack_view stack.new)) }
 {
     match token {
         TokenKind::Sign(Sign::Assign) => {

@@ -11,7 +11,7 @@ ghost use Rattle.actx_frames.specs.ParserView.{catch_view, frame_view, head_view
 use actx_ast::tree::{Catcher, Clause, Expr, PropKey, Property, Stmt};
 use actx_data::NoMemory;
 use actx_frames::lists::{with_clause, with_property};
-use actx_frames::moves::{ended, have};
+use actx_frames::moves::{ended_new, have};
 use actx_frames::nodes::{code, function};
 use actx_frames::stack::Stack;
 use actx_frames::state::{Frame, Head, ListOwner, Mode, Operand, Role, Step};
@@ -65,7 +65,10 @@ fn end_function(
             let expr = function(alloc, name, kind, params, body)?;
             Ok(have(expr, reach))
         }
-        Role::Declaration => Ok(ended(Stmt::Fun(code(name, kind, params, body)), reach)),
+        Role::Declaration => {
+            let stmt = Stmt::Fun(code(name, kind, params, body));
+            Ok(ended_new(alloc, stmt, reach)?)
+        }
         Role::Method(properties, key, _) => {
             let properties = end_method(alloc, properties, key, kind, params, body)?;
             Ok(Step::Go(Mode::KeyEnd(properties, reach)))
@@ -93,16 +96,17 @@ fn end_body(
 
 /// The list of a clause ends, and the `switch` with it.
 fn end_switch(
-    expr: Expr,
+    alloc: Global,
+    expr: Box<Expr>,
     clauses: Vec<Clause>,
     number: Option<u64>,
     body: Vec<Stmt>,
     reach: usize,
 ) -> Result<Step, NoMemory>
-    ensures { IfOk result (λ r. (s : List Held) → end_list (clause_of (expr_view expr) (clauses_view clauses.items) number) (stmts_view body.items) reach s ≡ move_of r s) }
+    ensures { IfOk result (λ r. (s : List Held) → end_list (clause_of (expr_view expr.value) (clauses_view clauses.items) number) (stmts_view body.items) reach s ≡ move_of r s) }
 {
     let clauses = with_clause(clauses, number, body)?;
-    Ok(ended(Stmt::Switch(expr, clauses), reach))
+    ended_new(alloc, Stmt::Switch(expr, clauses), reach)
 }
 
 /// A `catch` part.
@@ -142,15 +146,17 @@ fn end_list(
     match owner {
         ListOwner::Program => Ok(Step::Refused),
         ListOwner::Body(head, params) => end_body(alloc, head, params, stmts, reach),
-        ListOwner::Block => Ok(ended(Stmt::Block(stmts), reach)),
+        ListOwner::Block => Ok(ended_new(alloc, Stmt::Block(stmts), reach)?),
         ListOwner::Tried => Ok(Step::Go(Mode::CatchNext(stmts, reach))),
         ListOwner::Caught(block, name) => {
             let catcher = catcher(name, stmts);
             Ok(Step::Go(Mode::FinallyNext(block, catcher, reach)))
         }
-        ListOwner::Finally(block, catcher) => Ok(ended(try_with(block, catcher, stmts), reach)),
+        ListOwner::Finally(block, catcher) => {
+            Ok(ended_new(alloc, try_with(block, catcher, stmts), reach)?)
+        }
         ListOwner::Clause(expr, clauses, number) => {
-            end_switch(expr, clauses, number, stmts, reach)
+            end_switch(alloc, expr, clauses, number, stmts, reach)
         }
     }
 }
@@ -181,13 +187,13 @@ pub fn close_list(alloc: Global, stack: &mut Stack) -> Result<Step, NoMemory>
 /// Another clause begins behind one of a number.
 fn behind_number(
     numbered: bool,
-    expr: Expr,
+    expr: Box<Expr>,
     clauses: Vec<Clause>,
     number: u64,
     body: Vec<Stmt>,
     reach: usize,
 ) -> Result<Step, NoMemory>
-    ensures { IfOk result (λ r. (s : List Held) → next_clause numbered (in_list (clause_of (expr_view expr) (clauses_view clauses.items) (Some number)) (stmts_view body.items) reach ∷ s) ≡ move_of r s) }
+    ensures { IfOk result (λ r. (s : List Held) → next_clause numbered (in_list (clause_of (expr_view expr.value) (clauses_view clauses.items) (Some number)) (stmts_view body.items) reach ∷ s) ≡ move_of r s) }
 {
     let clauses = with_clause(clauses, Some(number), body)?;
     if numbered {
@@ -200,13 +206,13 @@ fn behind_number(
 /// Another clause begins behind one; the `default` is the last.
 fn behind_clause(
     numbered: bool,
-    expr: Expr,
+    expr: Box<Expr>,
     clauses: Vec<Clause>,
     number: Option<u64>,
     body: Vec<Stmt>,
     reach: usize,
 ) -> Result<Step, NoMemory>
-    ensures { IfOk result (λ r. (s : List Held) → next_clause numbered (in_list (clause_of (expr_view expr) (clauses_view clauses.items) number) (stmts_view body.items) reach ∷ s) ≡ move_of r s) }
+    ensures { IfOk result (λ r. (s : List Held) → next_clause numbered (in_list (clause_of (expr_view expr.value) (clauses_view clauses.items) number) (stmts_view body.items) reach ∷ s) ≡ move_of r s) }
 {
     match number {
         Some(n) => behind_number(numbered, expr, clauses, n, body, reach),

@@ -11,7 +11,7 @@ ghost use Rattle.actx_frames.specs.ParserView.{frame_view, items_of_view, move_o
 use actx_ast::tree::{ConstItem, Expr, ForInit, Key, LetItem, PropKey, Property, Stmt};
 use actx_data::NoMemory;
 use actx_frames::lists::{with_const, with_last, with_let, with_property};
-use actx_frames::moves::{body_in, ended, have, need_in};
+use actx_frames::moves::{body_in, ended_new, have, have_new, need_in};
 use actx_frames::nodes::{call, returning};
 use actx_frames::operand::close_form;
 use actx_frames::settle::settle;
@@ -25,21 +25,27 @@ use std::cmp::max;
 /// A call whose last argument is this.
 fn call_with_last(
     alloc: Global,
-    callee: Expr,
+    callee: Box<Expr>,
     args: Vec<Expr>,
-    last: Expr,
-) -> Result<Expr, NoMemory>
-    ensures { IfOk result (λ e. expr_view e ≡ Call (expr_view callee) (with_last (exprs_view args.items) (expr_view last))) }
+    last: Box<Expr>,
+) -> Result<Box<Expr>, NoMemory>
+    ensures { IfOk result (λ e. expr_view e.value ≡ Call (expr_view callee.value) (with_last (exprs_view args.items) (expr_view last.value))) }
 {
     call(alloc, callee, with_last(args, last)?)
 }
 
 /// A form whose last part is this, where it takes so many.
-fn close_form_with(form: Form, parts: Vec<Expr>, last: Expr, reach: usize) -> Result<Step, NoMemory>
-    ensures { IfOk result (λ r. (s : List Held) → go_if (suits form (suc (count (exprs_view parts.items)))) (have (Built form (with_last (exprs_view parts.items) (expr_view last))) reach) s ≡ move_of r s) }
+fn close_form_with(
+    alloc: Global,
+    form: Form,
+    parts: Vec<Expr>,
+    last: Box<Expr>,
+    reach: usize,
+) -> Result<Step, NoMemory>
+    ensures { IfOk result (λ r. (s : List Held) → go_if (suits form (suc (count (exprs_view parts.items)))) (have (Built form (with_last (exprs_view parts.items) (expr_view last.value))) reach) s ≡ move_of r s) }
 {
     let parts = with_last(parts, last)?;
-    Ok(close_form(form, parts, reach))
+    close_form(alloc, form, parts, reach)
 }
 
 /// A closing parenthesis behind an expression on a frame.
@@ -49,7 +55,7 @@ fn close_paren_on(
     held: Operand,
     stack: &mut Stack,
 ) -> Result<Step, NoMemory>
-    ensures { IfOk result (λ r. close_paren (settled (expr_view held.expr) held.reach (frame_view frame ∷ stack_view stack.old)) ≡ move_of r (stack_view stack.new)) }
+    ensures { IfOk result (λ r. close_paren (settled (expr_view held.expr.value) held.reach (frame_view frame ∷ stack_view stack.old)) ≡ move_of r (stack_view stack.new)) }
 {
     let _unchanged = stack.here(); // this read tells the proof that the stack stays
     let Operand { expr, reach } = held;
@@ -59,7 +65,9 @@ fn close_paren_on(
             let call = call_with_last(alloc, callee, args, expr)?;
             Ok(have(call, max(q, reach)))
         }
-        Frame::Form(form, parts, q) => Ok(close_form_with(form, parts, expr, max(q, reach))?),
+        Frame::Form(form, parts, q) => {
+            Ok(close_form_with(alloc, form, parts, expr, max(q, reach))?)
+        },
         Frame::If => Ok(body_in(Frame::YesOf(Operand { expr, reach }), stack)?),
         Frame::While => Ok(body_in(Frame::WhileOf(Operand { expr, reach }), stack)?),
         Frame::DoTest(stmt, q) => Ok(Step::Go(Mode::DoEnd(stmt, expr, max(q, reach)))),
@@ -106,25 +114,19 @@ fn after_computed(
 }
 
 /// A closing bracket behind an expression on a frame.
-fn close_bracket_on(
-    alloc: Global,
-    frame: Frame,
-    held: Operand,
-    stack: &mut Stack,
-) -> Result<Step, NoMemory>
-    ensures { IfOk result (λ r. close_bracket (settled (expr_view held.expr) held.reach (frame_view frame ∷ stack_view stack.old)) ≡ move_of r (stack_view stack.new)) }
+fn close_bracket_on(frame: Frame, held: Operand, stack: &mut Stack) -> Result<Step, NoMemory>
+    ensures { IfOk result (λ r. close_bracket (settled (expr_view held.expr.value) held.reach (frame_view frame ∷ stack_view stack.old)) ≡ move_of r (stack_view stack.new)) }
 {
     let _unchanged = stack.here(); // this read tells the proof that the stack stays
     let Operand { expr, reach } = held;
     match frame {
         Frame::Index(base) => {
             let reach = max(base.reach, reach);
-            let key = Key::Index(Box::new(alloc, expr)?);
+            let key = Key::Index(expr);
             Ok(Step::Go(Mode::HaveMember(base.expr, key, reach)))
         }
         Frame::Computed(properties, kind, q) => {
-            let key = Box::new(alloc, expr)?;
-            Ok(after_computed(properties, kind, key, max(q, reach)))
+            Ok(after_computed(properties, kind, expr, max(q, reach)))
         }
         other => {
             drop(other);
@@ -134,25 +136,30 @@ fn close_bracket_on(
 }
 
 /// A closing bracket behind an expression.
-pub fn close_bracket(alloc: Global, held: Operand, stack: &mut Stack) -> Result<Step, NoMemory>
+pub fn close_bracket(held: Operand, stack: &mut Stack) -> Result<Step, NoMemory>
     ensures { IfOk result (λ r. close_bracket (settled_of held stack.old) ≡ move_of r (stack_view stack.new)) }
 {
     match stack.pop() {
-        Some(frame) => close_bracket_on(alloc, frame, held, stack),
+        Some(frame) => close_bracket_on(frame, held, stack),
         None => Ok(Step::Refused),
     }
 }
 
 /// A closing brace behind an expression: a literal ends on a frame.
-fn close_brace_on(frame: Frame, held: Operand, stack: &mut Stack) -> Result<Step, NoMemory>
-    ensures { IfOk result (λ r. close_brace (settled (expr_view held.expr) held.reach (frame_view frame ∷ stack_view stack.old)) ≡ move_of r (stack_view stack.new)) }
+fn close_brace_on(
+    alloc: Global,
+    frame: Frame,
+    held: Operand,
+    stack: &mut Stack,
+) -> Result<Step, NoMemory>
+    ensures { IfOk result (λ r. close_brace (settled (expr_view held.expr.value) held.reach (frame_view frame ∷ stack_view stack.old)) ≡ move_of r (stack_view stack.new)) }
 {
     let _unchanged = stack.here(); // this read tells the proof that the stack stays
     let Operand { expr, reach } = held;
     match frame {
         Frame::Property(properties, key, q) => {
             let properties = with_property(properties, key, expr)?;
-            Ok(have(Expr::Object(properties), max(q, reach)))
+            Ok(have_new(alloc, Expr::Object(properties), max(q, reach))?)
         }
         other => {
             drop(other);
@@ -162,18 +169,18 @@ fn close_brace_on(frame: Frame, held: Operand, stack: &mut Stack) -> Result<Step
 }
 
 /// A closing brace behind an expression: a literal ends.
-pub fn close_brace(held: Operand, stack: &mut Stack) -> Result<Step, NoMemory>
+pub fn close_brace(alloc: Global, held: Operand, stack: &mut Stack) -> Result<Step, NoMemory>
     ensures { IfOk result (λ r. close_brace (settled_of held stack.old) ≡ move_of r (stack_view stack.new)) }
 {
     match stack.pop() {
-        Some(frame) => close_brace_on(frame, held, stack),
+        Some(frame) => close_brace_on(alloc, frame, held, stack),
         None => Ok(Step::Refused),
     }
 }
 
 /// A comma: behind an argument, a property or an item on a frame.
 fn comma_on(frame: Frame, held: Operand, stack: &mut Stack) -> Result<Step, NoMemory>
-    ensures { IfOk result (λ r. comma (settled (expr_view held.expr) held.reach (frame_view frame ∷ stack_view stack.old)) ≡ move_of r (stack_view stack.new)) }
+    ensures { IfOk result (λ r. comma (settled (expr_view held.expr.value) held.reach (frame_view frame ∷ stack_view stack.old)) ≡ move_of r (stack_view stack.new)) }
 {
     let _unchanged = stack.here(); // this read tells the proof that the stack stays
     let Operand { expr, reach } = held;
@@ -216,43 +223,58 @@ pub fn comma(held: Operand, stack: &mut Stack) -> Result<Step, NoMemory>
 }
 
 /// The items of a `let` end.
-pub fn end_lets(of: ItemsOf, items: Vec<LetItem>, reach: usize) -> Step
-    ensures { (s : List Held) → end_lets (items_of_view of) (lets_view items.items) reach s ≡ move_of result s }
+pub fn end_lets(
+    alloc: Global,
+    of: ItemsOf,
+    items: Vec<LetItem>,
+    reach: usize,
+) -> Result<Step, NoMemory>
+    ensures { IfOk result (λ r. (s : List Held) → end_lets (items_of_view of) (lets_view items.items) reach s ≡ move_of r s) }
 {
     match of {
-        ItemsOf::Statement => ended(Stmt::Let(items), reach),
-        ItemsOf::For => Step::Go(Mode::ForTest(ForInit::Let(items), reach)),
+        ItemsOf::Statement => Ok(ended_new(alloc, Stmt::Let(items), reach)?),
+        ItemsOf::For => Ok(Step::Go(Mode::ForTest(ForInit::Let(items), reach))),
     }
 }
 
 /// The items of a `const` end.
-pub fn end_consts(of: ItemsOf, items: Vec<ConstItem>, reach: usize) -> Step
-    ensures { (s : List Held) → end_consts (items_of_view of) (consts_view items.items) reach s ≡ move_of result s }
+pub fn end_consts(
+    alloc: Global,
+    of: ItemsOf,
+    items: Vec<ConstItem>,
+    reach: usize,
+) -> Result<Step, NoMemory>
+    ensures { IfOk result (λ r. (s : List Held) → end_consts (items_of_view of) (consts_view items.items) reach s ≡ move_of r s) }
 {
     match of {
-        ItemsOf::Statement => ended(Stmt::Const(items), reach),
-        ItemsOf::For => Step::Go(Mode::ForTest(ForInit::Const(items), reach)),
+        ItemsOf::Statement => Ok(ended_new(alloc, Stmt::Const(items), reach)?),
+        ItemsOf::For => Ok(Step::Go(Mode::ForTest(ForInit::Const(items), reach))),
     }
 }
 
 /// A semicolon behind an expression on a frame.
-fn semicolon_on(frame: Frame, held: Operand, stack: &mut Stack) -> Result<Step, NoMemory>
-    ensures { IfOk result (λ r. semicolon (settled (expr_view held.expr) held.reach (frame_view frame ∷ stack_view stack.old)) ≡ move_of r (stack_view stack.new)) }
+fn semicolon_on(
+    alloc: Global,
+    frame: Frame,
+    held: Operand,
+    stack: &mut Stack,
+) -> Result<Step, NoMemory>
+    ensures { IfOk result (λ r. semicolon (settled (expr_view held.expr.value) held.reach (frame_view frame ∷ stack_view stack.old)) ≡ move_of r (stack_view stack.new)) }
 {
     let _unchanged = stack.here(); // this read tells the proof that the stack stays
     let Operand { expr, reach } = held;
     match frame {
-        Frame::Value => Ok(ended(Stmt::Value(expr), reach)),
+        Frame::Value => Ok(ended_new(alloc, Stmt::Value(expr), reach)?),
         Frame::Let(of, items, name, q) => {
             let items = with_let(items, name, Some(expr))?;
-            Ok(end_lets(of, items, max(q, reach)))
+            Ok(end_lets(alloc, of, items, max(q, reach))?)
         }
         Frame::Const(of, items, name, q) => {
             let items = with_const(items, name, expr)?;
-            Ok(end_consts(of, items, max(q, reach)))
+            Ok(end_consts(alloc, of, items, max(q, reach))?)
         }
-        Frame::Return => Ok(ended(returning(expr), reach)),
-        Frame::Throw => Ok(ended(Stmt::Throw(expr), reach)),
+        Frame::Return => Ok(ended_new(alloc, returning(expr), reach)?),
+        Frame::Throw => Ok(ended_new(alloc, Stmt::Throw(expr), reach)?),
         Frame::ForInit => Ok(Step::Go(Mode::ForTest(ForInit::Value(expr), reach))),
         Frame::ForTest(init, q) => {
             let reach = max(q, reach);
@@ -266,18 +288,18 @@ fn semicolon_on(frame: Frame, held: Operand, stack: &mut Stack) -> Result<Step, 
 }
 
 /// A semicolon behind an expression.
-pub fn semicolon(held: Operand, stack: &mut Stack) -> Result<Step, NoMemory>
+pub fn semicolon(alloc: Global, held: Operand, stack: &mut Stack) -> Result<Step, NoMemory>
     ensures { IfOk result (λ r. semicolon (settled_of held stack.old) ≡ move_of r (stack_view stack.new)) }
 {
     match stack.pop() {
-        Some(frame) => semicolon_on(frame, held, stack),
+        Some(frame) => semicolon_on(alloc, frame, held, stack),
         None => Ok(Step::Refused),
     }
 }
 
 /// A colon behind an expression on a frame.
 fn colon_on(frame: Frame, held: Operand, stack: &mut Stack) -> Result<Step, NoMemory>
-    ensures { IfOk result (λ r. colon (settled (expr_view held.expr) held.reach (frame_view frame ∷ stack_view stack.old)) ≡ move_of r (stack_view stack.new)) }
+    ensures { IfOk result (λ r. colon (settled (expr_view held.expr.value) held.reach (frame_view frame ∷ stack_view stack.old)) ≡ move_of r (stack_view stack.new)) }
 {
     let _unchanged = stack.here(); // this read tells the proof that the stack stays
     let Operand { expr, reach } = held;
@@ -311,7 +333,7 @@ fn whole_sign(
     sign: Sign,
     stack: &mut Stack,
 ) -> Result<Step, NoMemory>
-    ensures { IfOk result (λ r. at_whole (expr_view operand.expr) operand.reach (stack_view stack.old) (TokenKind.Sign sign) ≡ move_of r (stack_view stack.new)) }
+    ensures { IfOk result (λ r. at_whole (expr_view operand.expr.value) operand.reach (stack_view stack.old) (TokenKind.Sign sign) ≡ move_of r (stack_view stack.new)) }
 {
     match sign {
         Sign::CloseParen => {
@@ -320,11 +342,11 @@ fn whole_sign(
         }
         Sign::CloseBracket => {
             let held = settle(alloc, 0, operand, stack)?;
-            close_bracket(alloc, held, stack)
+            close_bracket(held, stack)
         }
         Sign::CloseBrace => {
             let held = settle(alloc, 0, operand, stack)?;
-            close_brace(held, stack)
+            close_brace(alloc, held, stack)
         }
         Sign::Comma => {
             let held = settle(alloc, 0, operand, stack)?;
@@ -332,7 +354,7 @@ fn whole_sign(
         }
         Sign::Semicolon => {
             let held = settle(alloc, 0, operand, stack)?;
-            semicolon(held, stack)
+            semicolon(alloc, held, stack)
         }
         Sign::Colon => {
             let held = settle(alloc, 0, operand, stack)?;
@@ -352,7 +374,7 @@ pub fn at_whole(
     token: &TokenKind,
     stack: &mut Stack,
 ) -> Result<Step, NoMemory>
-    ensures { IfOk result (λ r. at_whole (expr_view operand.expr) operand.reach (stack_view stack.old) token.now ≡ move_of r (stack_view stack.new)) }
+    ensures { IfOk result (λ r. at_whole (expr_view operand.expr.value) operand.reach (stack_view stack.old) token.now ≡ move_of r (stack_view stack.new)) }
 {
     let _unchanged = stack.here(); // this read tells the proof that the stack stays
     match token {

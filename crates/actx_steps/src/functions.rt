@@ -240,7 +240,7 @@ fn yield_operand(
     if valued {
         need_on(alloc, rules, Frame::Yield, token, stack)
     } else {
-        let expr = Expr::Yield(None);
+        let expr = Box::new(alloc, Expr::Yield(None))?;
         let reach = stack.here();
         at_whole(alloc, Operand { expr, reach }, token, stack)
     }

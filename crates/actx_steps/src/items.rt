@@ -113,6 +113,7 @@ fn let_alone(items: Vec<LetItem>, name: Name) -> Result<Vec<LetItem>, NoMemory>
 
 /// A token behind the name of an item of a `let`.
 pub fn at_let_behind(
+    alloc: Global,
     rules: Rules,
     of: ItemsOf,
     items: Vec<LetItem>,
@@ -135,7 +136,7 @@ pub fn at_let_behind(
         }
         TokenKind::Sign(Sign::Semicolon) => {
             let items = let_alone(items, name)?;
-            Ok(end_lets(of, items, reach))
+            Ok(end_lets(alloc, of, items, reach)?)
         }
         TokenKind::Name(word) => Ok(let_of(rules, of, items, name, word, stack)?),
         TokenKind::Sign(_) => Ok(Step::Refused),

@@ -68,21 +68,21 @@ pub fn at_brace(
 }
 
 /// A `do` with its body and test.
-fn do_while(alloc: Global, stmt: Stmt, test: Expr) -> Result<Stmt, NoMemory>
-    ensures { IfOk result (λ st. stmt_view st ≡ DoWhile (stmt_view stmt) (expr_view test)) }
+fn do_while(alloc: Global, stmt: Box<Stmt>, test: Box<Expr>) -> Result<Box<Stmt>, NoMemory>
+    ensures { IfOk result (λ st. stmt_view st.value ≡ DoWhile (stmt_view stmt.value) (expr_view test.value)) }
 {
-    Ok(Stmt::DoWhile(Box::new(alloc, stmt)?, test))
+    Ok(Box::new(alloc, Stmt::DoWhile(stmt, test))?)
 }
 
 /// A token behind the test of a `do`.
 pub fn at_do_end(
     alloc: Global,
-    stmt: Stmt,
-    test: Expr,
+    stmt: Box<Stmt>,
+    test: Box<Expr>,
     reach: usize,
     token: &TokenKind,
 ) -> Result<Step, NoMemory>
-    ensures { IfOk result (λ r. (s : List Held) → at_do_end (stmt_view stmt) (expr_view test) reach s token.now ≡ move_of r s) }
+    ensures { IfOk result (λ r. (s : List Held) → at_do_end (stmt_view stmt.value) (expr_view test.value) reach s token.now ≡ move_of r s) }
 {
     match token {
         TokenKind::Sign(Sign::Semicolon) => Ok(ended(do_while(alloc, stmt, test)?, reach)),
@@ -141,7 +141,7 @@ pub fn at_for_update(
     alloc: Global,
     rules: Rules,
     init: ForInit,
-    test: Option<Expr>,
+    test: Option<Box<Expr>>,
     reach: usize,
     token: &TokenKind,
     stack: &mut Stack,

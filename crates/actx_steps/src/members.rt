@@ -24,7 +24,7 @@ use std::alloc::Global;
 
 /// A member by its name, or the function that `.call` calls.
 fn named_member(side: Side, operand: Operand, word: Name) -> Step
-    ensures { (s : List Held) → member_word side (expr_view operand.expr) (Some word) operand.reach s ≡ move_of result s }
+    ensures { (s : List Held) → member_word side (expr_view operand.expr.value) (Some word) operand.reach s ≡ move_of result s }
 {
     let Operand { expr, reach } = operand;
     match side {
@@ -46,7 +46,7 @@ pub fn at_member_name(
     operand: Operand,
     token: &TokenKind,
 ) -> Result<Step, NoMemory>
-    ensures { IfOk result (λ r. (s : List Held) → member_word rules.side (expr_view operand.expr) (word_of token.now) operand.reach s ≡ move_of r s) }
+    ensures { IfOk result (λ r. (s : List Held) → member_word rules.side (expr_view operand.expr.value) (word_of token.now) operand.reach s ≡ move_of r s) }
 {
     match word_of(alloc, token)? {
         Some(word) => Ok(named_member(rules.side, operand, word)),
@@ -55,17 +55,17 @@ pub fn at_member_name(
 }
 
 /// The list of one expression.
-fn one_part(alloc: Global, expr: Expr) -> Result<Vec<Expr>, NoMemory>
-    ensures { IfOk result (λ es. exprs_view es.items ≡ also (expr_view expr) none) }
+fn one_part(alloc: Global, expr: Box<Expr>) -> Result<Vec<Expr>, NoMemory>
+    ensures { IfOk result (λ es. exprs_view es.items ≡ also (expr_view expr.value) none) }
 {
     let mut parts = Vec::new(alloc);
-    parts.push(expr)?;
+    parts.push(Box::into_inner(expr))?;
     Ok(parts)
 }
 
 /// The parts of `f.call` begin with the function.
 fn open_call(alloc: Global, operand: Operand, stack: &mut Stack) -> Result<Step, NoMemory>
-    ensures { IfOk result (λ r. at_call (expr_view operand.expr) operand.reach (stack_view stack.old) (TokenKind.Sign Sign.OpenParen) ≡ move_of r (stack_view stack.new)) }
+    ensures { IfOk result (λ r. at_call (expr_view operand.expr.value) operand.reach (stack_view stack.old) (TokenKind.Sign Sign.OpenParen) ≡ move_of r (stack_view stack.new)) }
 {
     let Operand { expr, reach } = operand;
     let parts = one_part(alloc, expr)?;
@@ -79,7 +79,7 @@ pub fn at_call(
     token: &TokenKind,
     stack: &mut Stack,
 ) -> Result<Step, NoMemory>
-    ensures { IfOk result (λ r. at_call (expr_view operand.expr) operand.reach (stack_view stack.old) token.now ≡ move_of r (stack_view stack.new)) }
+    ensures { IfOk result (λ r. at_call (expr_view operand.expr.value) operand.reach (stack_view stack.old) token.now ≡ move_of r (stack_view stack.new)) }
 {
     let _unchanged = stack.here(); // this read tells the proof that the stack stays
     match token {

@@ -78,12 +78,14 @@ fn name_sign(
         Sign::Increment => {
             let _unchanged = stack.here(); // this read tells the proof that the stack stays
             let (up, before) = (true, false);
-            Ok(Step::Go(Mode::HaveBump(Expr::Bump { name, up, before })))
+            let expr = Box::new(alloc, Expr::Bump { name, up, before })?;
+            Ok(Step::Go(Mode::HaveBump(expr)))
         }
         Sign::Decrement => {
             let _unchanged = stack.here(); // this read tells the proof that the stack stays
             let (up, before) = (false, false);
-            Ok(Step::Go(Mode::HaveBump(Expr::Bump { name, up, before })))
+            let expr = Box::new(alloc, Expr::Bump { name, up, before })?;
+            Ok(Step::Go(Mode::HaveBump(expr)))
         }
         Sign::Assign => assign(rules, Frame::SetName(name), stack),
         Sign::AddAssign => assign(rules, Frame::Change(name, BinaryOp::Add), stack),

@@ -13,7 +13,7 @@ use actx_data::{NoMemory, Twin, Units};
 use actx_frames::key::{keyword_units, name_units};
 use actx_frames::limits::{Rules, deeper, fits_below, is_source};
 use actx_frames::lists::with_property;
-use actx_frames::moves::{go_if, have, need_if, need_in};
+use actx_frames::moves::{go_if, have_new, need_if, need_in};
 use actx_frames::stack::Stack;
 use actx_frames::state::{Frame, Head, Mode, Operand, Role, Step};
 use actx_frames::word::{is_binding, named};
@@ -80,6 +80,7 @@ fn at_key_word(
 
 /// A sign where a key is wanted.
 fn key_sign(
+    alloc: Global,
     rules: Rules,
     properties: Vec<Property>,
     reach: usize,
@@ -90,7 +91,7 @@ fn key_sign(
 {
     let _unchanged = stack.here(); // this read tells the proof that the stack stays
     match sign {
-        Sign::CloseBrace => Ok(have(Expr::Object(properties), reach)),
+        Sign::CloseBrace => Ok(have_new(alloc, Expr::Object(properties), reach)?),
         Sign::OpenBracket => {
             let test = fits_below(rules, stack);
             need_if(test, Frame::Computed(properties, None, reach), stack)
@@ -127,7 +128,7 @@ pub fn at_key(
         TokenKind::Text(units) => {
             Ok(at_fixed(rules, properties, units.copy(alloc)?, reach, stack))
         }
-        TokenKind::Sign(sign) => Ok(key_sign(rules, properties, reach, *sign, stack)?),
+        TokenKind::Sign(sign) => { Ok(key_sign(alloc, rules, properties, reach, *sign, stack)?) },
         TokenKind::Number(_) => Ok(Step::Refused),
     }
 }
@@ -226,7 +227,7 @@ pub fn behind_key_name(
         TokenKind::Sign(Sign::CloseBrace) => {
             let reach = max(reach, deeper(stack.here())?);
             let properties = alone(alloc, properties, &name)?;
-            let expr = Expr::Object(properties);
+            let expr = Box::new(alloc, Expr::Object(properties))?;
             let test = is_binding(rules.side, &name);
             Ok(go_if(test, Mode::Have(Operand { expr, reach })))
         }
@@ -342,16 +343,23 @@ pub fn at_method(
 }
 
 /// A token behind a method.
-pub fn behind_property(properties: Vec<Property>, reach: usize, token: &TokenKind) -> Step
-    ensures { (s : List Held) → behind_property (properties_view properties.items) reach s token.now ≡ move_of result s }
+pub fn behind_property(
+    alloc: Global,
+    properties: Vec<Property>,
+    reach: usize,
+    token: &TokenKind,
+) -> Result<Step, NoMemory>
+    ensures { IfOk result (λ r. (s : List Held) → behind_property (properties_view properties.items) reach s token.now ≡ move_of r s) }
 {
     match token {
-        TokenKind::Sign(Sign::Comma) => Step::Go(Mode::KeyNext(properties, reach)),
-        TokenKind::Sign(Sign::CloseBrace) => have(Expr::Object(properties), reach),
-        TokenKind::Sign(_) => Step::Refused,
-        TokenKind::Name(_) => Step::Refused,
-        TokenKind::Keyword(_) => Step::Refused,
-        TokenKind::Number(_) => Step::Refused,
-        TokenKind::Text(_) => Step::Refused,
+        TokenKind::Sign(Sign::Comma) => Ok(Step::Go(Mode::KeyNext(properties, reach))),
+        TokenKind::Sign(Sign::CloseBrace) => {
+            Ok(have_new(alloc, Expr::Object(properties), reach)?)
+        }
+        TokenKind::Sign(_) => Ok(Step::Refused),
+        TokenKind::Name(_) => Ok(Step::Refused),
+        TokenKind::Keyword(_) => Ok(Step::Refused),
+        TokenKind::Number(_) => Ok(Step::Refused),
+        TokenKind::Text(_) => Ok(Step::Refused),
     }
 }

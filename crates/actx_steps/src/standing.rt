@@ -23,7 +23,7 @@ use std::cmp::max;
 /// A statement, and the depth of its deepest part in the whole text.
 #[derive(Drop)]
 pub struct Standing {
-    pub stmt: Stmt,
+    pub stmt: Box<Stmt>,
     pub reach: usize,
 }
 
@@ -42,22 +42,27 @@ pub enum Branch {
     Refused,
 }
 
-fn some(alloc: Global, stmt: Stmt) -> Result<Option<Box<Stmt>>, NoMemory>
-    ensures { IfOk result (λ o. maybe_stmt (option_map (λ b. stmt_view b.value) o) ≡ some_stmt (stmt_view stmt)) }
+fn some(stmt: Box<Stmt>) -> Option<Box<Stmt>>
+    ensures { maybe_stmt (option_map (λ b. stmt_view b.value) result) ≡ some_stmt (stmt_view stmt.value) }
 {
-    Ok(Some(Box::new(alloc, stmt)?))
+    Some(stmt)
 }
 
 /// An `if`, maybe with `else`.
-fn tested(alloc: Global, test: Expr, yes: Stmt, no: Option<Box<Stmt>>) -> Result<Stmt, NoMemory>
-    ensures { IfOk result (λ st. stmt_view st ≡ Testing (expr_view test) (stmt_view yes) (maybe_stmt (option_map (λ b. stmt_view b.value) no))) }
+fn tested(
+    alloc: Global,
+    test: Box<Expr>,
+    yes: Box<Stmt>,
+    no: Option<Box<Stmt>>,
+) -> Result<Box<Stmt>, NoMemory>
+    ensures { IfOk result (λ st. stmt_view st.value ≡ Testing (expr_view test.value) (stmt_view yes.value) (maybe_stmt (option_map (λ b. stmt_view b.value) no))) }
 {
-    Ok(Stmt::If(test, Box::new(alloc, yes)?, no))
+    Ok(Box::new(alloc, Stmt::If(test, yes, no))?)
 }
 
 /// An `if` without `else`.
 fn test_alone(alloc: Global, test: Operand, yes: Standing) -> Result<Standing, NoMemory>
-    ensures { IfOk result (λ st. (stmt_view st.stmt ≡ Testing (expr_view test.expr) (stmt_view yes.stmt) no_stmt) × (st.reach ≡ max test.reach yes.reach)) }
+    ensures { IfOk result (λ st. (stmt_view st.stmt.value ≡ Testing (expr_view test.expr.value) (stmt_view yes.stmt.value) no_stmt) × (st.reach ≡ max test.reach yes.reach)) }
 {
     let reach = max(test.reach, yes.reach);
     let stmt = tested(alloc, test.expr, yes.stmt, None)?;
@@ -67,39 +72,38 @@ fn test_alone(alloc: Global, test: Operand, yes: Standing) -> Result<Standing, N
 /// An `if` with `else`.
 fn test_both(
     alloc: Global,
-    test: Expr,
-    yes: Stmt,
+    test: Box<Expr>,
+    yes: Box<Stmt>,
     reach: usize,
     no: Standing,
 ) -> Result<Standing, NoMemory>
-    ensures { IfOk result (λ st. (stmt_view st.stmt ≡ Testing (expr_view test) (stmt_view yes) (some_stmt (stmt_view no.stmt))) × (st.reach ≡ max reach no.reach)) }
+    ensures { IfOk result (λ st. (stmt_view st.stmt.value ≡ Testing (expr_view test.value) (stmt_view yes.value) (some_stmt (stmt_view no.stmt.value))) × (st.reach ≡ max reach no.reach)) }
 {
     let reach = max(reach, no.reach);
-    let stmt = tested(alloc, test, yes, some(alloc, no.stmt)?)?;
+    let stmt = tested(alloc, test, yes, some(no.stmt))?;
     Ok(Standing { stmt, reach })
 }
 
 fn repeating(alloc: Global, test: Operand, body: Standing) -> Result<Standing, NoMemory>
-    ensures { IfOk result (λ st. (stmt_view st.stmt ≡ Repeating (expr_view test.expr) (stmt_view body.stmt)) × (st.reach ≡ max test.reach body.reach)) }
+    ensures { IfOk result (λ st. (stmt_view st.stmt.value ≡ Repeating (expr_view test.expr.value) (stmt_view body.stmt.value)) × (st.reach ≡ max test.reach body.reach)) }
 {
     let reach = max(test.reach, body.reach);
-    let stmt = Stmt::While(test.expr, Box::new(alloc, body.stmt)?);
+    let stmt = Box::new(alloc, Stmt::While(test.expr, body.stmt))?;
     Ok(Standing { stmt, reach })
 }
 
 fn looping(
     alloc: Global,
     init: ForInit,
-    test: Option<Expr>,
-    update: Option<Expr>,
+    test: Option<Box<Expr>>,
+    update: Option<Box<Expr>>,
     reach: usize,
     body: Standing,
 ) -> Result<Standing, NoMemory>
-    ensures { IfOk result (λ st. (stmt_view st.stmt ≡ Looping (init_view init) (maybe_expr_view test) (maybe_expr_view update) (stmt_view body.stmt)) × (st.reach ≡ max reach body.reach)) }
+    ensures { IfOk result (λ st. (stmt_view st.stmt.value ≡ Looping (init_view init) (maybe_expr_view test) (maybe_expr_view update) (stmt_view body.stmt.value)) × (st.reach ≡ max reach body.reach)) }
 {
     let reach = max(reach, body.reach);
-    let body = Box::new(alloc, body.stmt)?;
-    let stmt = Stmt::For(init, test, update, body);
+    let stmt = Box::new(alloc, Stmt::For(init, test, update, body.stmt))?;
     Ok(Standing { stmt, reach })
 }
 
@@ -110,23 +114,24 @@ fn iterating(
     over: Operand,
     body: Standing,
 ) -> Result<Standing, NoMemory>
-    ensures { IfOk result (λ st. (stmt_view st.stmt ≡ Iterating constant name (expr_view over.expr) (stmt_view body.stmt)) × (st.reach ≡ max over.reach body.reach)) }
+    ensures { IfOk result (λ st. (stmt_view st.stmt.value ≡ Iterating constant name (expr_view over.expr.value) (stmt_view body.stmt.value)) × (st.reach ≡ max over.reach body.reach)) }
 {
     let reach = max(over.reach, body.reach);
-    let body = Box::new(alloc, body.stmt)?;
     let over = over.expr;
-    let stmt = Stmt::ForOf {
+    let body = body.stmt;
+    let made = Stmt::ForOf {
         constant,
         name,
         over,
         body,
     };
+    let stmt = Box::new(alloc, made)?;
     Ok(Standing { stmt, reach })
 }
 
 /// A statement on a frame, where no `else` follows.
 fn join(alloc: Global, frame: Frame, held: Standing) -> Result<Joined, NoMemory>
-    ensures { IfOk result (λ j. (s : List Held) → settle_stmt (stmt_view held.stmt) held.reach (frame_view frame ∷ s) ≡ joined_of j s) }
+    ensures { IfOk result (λ j. (s : List Held) → settle_stmt (stmt_view held.stmt.value) held.reach (frame_view frame ∷ s) ≡ joined_of j s) }
 {
     match frame {
         Frame::YesOf(test) => Ok(Joined::Held(test_alone(alloc, test, held)?)),
@@ -150,7 +155,7 @@ pub fn settle_stmt(
     standing: Standing,
     stack: &mut Stack,
 ) -> Result<Standing, NoMemory>
-    ensures { IfOk result (λ held. settle_stmt (stmt_view standing.stmt) standing.reach (stack_view stack.old) ≡ standing_of held stack.new) }
+    ensures { IfOk result (λ held. settle_stmt (stmt_view standing.stmt.value) standing.reach (stack_view stack.old) ≡ standing_of held stack.new) }
 {
     let mut held = standing;
     while let Some(frame) = stack.pop() {
@@ -167,7 +172,7 @@ pub fn settle_stmt(
 
 /// A statement on a frame, where `else` follows.
 fn branch_on(alloc: Global, frame: Frame, held: Standing) -> Result<Branch, NoMemory>
-    ensures { IfOk result (λ b. (s : List Held) → to_else (stmt_view held.stmt) held.reach (frame_view frame ∷ s) ≡ branch_of b s) }
+    ensures { IfOk result (λ b. (s : List Held) → to_else (stmt_view held.stmt.value) held.reach (frame_view frame ∷ s) ≡ branch_of b s) }
 {
     match frame {
         Frame::YesOf(test) => {
@@ -193,7 +198,7 @@ fn branch_on(alloc: Global, frame: Frame, held: Standing) -> Result<Branch, NoMe
 
 /// An `else`, which belongs to the nearest `if`.
 fn to_else(alloc: Global, standing: Standing, stack: &mut Stack) -> Result<Step, NoMemory>
-    ensures { IfOk result (λ r. to_else (stmt_view standing.stmt) standing.reach (stack_view stack.old) ≡ move_of r (stack_view stack.new)) }
+    ensures { IfOk result (λ r. to_else (stmt_view standing.stmt.value) standing.reach (stack_view stack.old) ≡ move_of r (stack_view stack.new)) }
 {
     let mut held = standing;
     while let Some(frame) = stack.pop() {
@@ -211,7 +216,7 @@ fn to_else(alloc: Global, standing: Standing, stack: &mut Stack) -> Result<Step,
 
 /// A token behind the body of a `do`.
 fn at_do(rules: Rules, held: Standing, token: &TokenKind, stack: &mut Stack) -> Step
-    ensures { behind_standing (bounds rules) rules.side (standing (stmt_view held.stmt) held.reach (do_of ∷ stack_view stack.old)) token.now ≡ move_of result (stack_view stack.new) }
+    ensures { behind_standing (bounds rules) rules.side (standing (stmt_view held.stmt.value) held.reach (do_of ∷ stack_view stack.old)) token.now ≡ move_of result (stack_view stack.new) }
 {
     let _unchanged = stack.here(); // this read tells the proof that the stack stays
     match token {
@@ -233,7 +238,7 @@ fn behind_on(
     token: &TokenKind,
     stack: &mut Stack,
 ) -> Result<Step, NoMemory>
-    ensures { IfOk result (λ r. behind_standing (bounds rules) rules.side (standing (stmt_view held.stmt) held.reach (frame_view frame ∷ stack_view stack.old)) token.now ≡ move_of r (stack_view stack.new)) }
+    ensures { IfOk result (λ r. behind_standing (bounds rules) rules.side (standing (stmt_view held.stmt.value) held.reach (frame_view frame ∷ stack_view stack.old)) token.now ≡ move_of r (stack_view stack.new)) }
 {
     match frame {
         Frame::List(owner, stmts, q) => {
@@ -273,7 +278,7 @@ fn behind_settled(
     token: &TokenKind,
     stack: &mut Stack,
 ) -> Result<Step, NoMemory>
-    ensures { IfOk result (λ r. behind_standing (bounds rules) rules.side (settle_stmt (stmt_view standing.stmt) standing.reach (stack_view stack.old)) token.now ≡ move_of r (stack_view stack.new)) }
+    ensures { IfOk result (λ r. behind_standing (bounds rules) rules.side (settle_stmt (stmt_view standing.stmt.value) standing.reach (stack_view stack.old)) token.now ≡ move_of r (stack_view stack.new)) }
 {
     let held = settle_stmt(alloc, standing, stack)?;
     behind_standing(alloc, rules, held, token, stack)
@@ -283,12 +288,12 @@ fn behind_settled(
 pub fn behind_stmt(
     alloc: Global,
     rules: Rules,
-    stmt: Stmt,
+    stmt: Box<Stmt>,
     reach: usize,
     token: &TokenKind,
     stack: &mut Stack,
 ) -> Result<Step, NoMemory>
-    ensures { IfOk result (λ r. behind_stmt (bounds rules) rules.side (stmt_view stmt) reach (stack_view stack.old) token.now ≡ move_of r (stack_view stack.new)) }
+    ensures { IfOk result (λ r. behind_stmt (bounds rules) rules.side (stmt_view stmt.value) reach (stack_view stack.old) token.now ≡ move_of r (stack_view stack.new)) }
 {
     let standing = Standing { stmt, reach };
     match token {

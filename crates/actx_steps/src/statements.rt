@@ -3,7 +3,7 @@
 ghost use Rattle.std.specs.Prelude.{◌≡◌, ◌∷◌, if◌then◌else◌, IfOk};
 ghost use Rattle.actx_grammar.specs.Parser.{at_body_start, at_jump, at_return, at_start, at_statement, at_throw, list_keyword, statement_keyword, with_parts, without_parts};
 ghost use Rattle.actx_grammar.specs.ParserOperands.{at_need};
-ghost use Rattle.actx_grammar.specs.ParserState.{in_return, refuse};
+ghost use Rattle.actx_grammar.specs.ParserState.{in_return, jump_end, refuse};
 ghost use Rattle.actx_ast.specs.View.{stmt_view};
 ghost use Rattle.actx_frames.specs.ParserView.{bounds, mode_view, move_of, stack_view};
 
@@ -11,7 +11,7 @@ use super::bodies::{close_list, next_clause};
 use actx_ast::tree::Stmt;
 use actx_data::NoMemory;
 use actx_frames::limits::{Rules, fits, fits_below};
-use actx_frames::moves::{body_in, ended, go_if, open_list};
+use actx_frames::moves::{body_in, ended, ended_new, go_if, open_list};
 use actx_frames::operand::need_on;
 use actx_frames::stack::Stack;
 use actx_frames::state::{Frame, ItemsOf, ListOwner, Mode, Role, Step};
@@ -60,6 +60,14 @@ fn begin_switch(
     }
 }
 
+/// `break` or `continue`.
+fn begin_jump(alloc: Global, rules: Rules, stmt: Stmt, stack: &mut Stack) -> Result<Step, NoMemory>
+    ensures { IfOk result (λ r. without_parts (bounds rules) (jump_end (stmt_view stmt)) (stack_view stack.old) ≡ move_of r (stack_view stack.new)) }
+{
+    let stmt = Box::new(alloc, stmt)?;
+    Ok(without_parts(rules, Mode::JumpEnd(stmt), stack))
+}
+
 /// A reserved word where a statement that is no declaration begins.
 fn statement_keyword(
     alloc: Global,
@@ -76,8 +84,8 @@ fn statement_keyword(
         Keyword::While => Ok(with_parts(rules, Mode::WhileOpen, stack)),
         Keyword::Do => begin_do(rules, stack),
         Keyword::For => Ok(with_parts(rules, Mode::ForOpen, stack)),
-        Keyword::Break => Ok(without_parts(rules, Mode::JumpEnd(Stmt::Break), stack)),
-        Keyword::Continue => Ok(without_parts(rules, Mode::JumpEnd(Stmt::Continue), stack)),
+        Keyword::Break => begin_jump(alloc, rules, Stmt::Break, stack),
+        Keyword::Continue => begin_jump(alloc, rules, Stmt::Continue, stack),
         Keyword::Return => Ok(without_parts(rules, Mode::ReturnNext, stack)),
         Keyword::Throw => Ok(with_parts(rules, Mode::ThrowNext, stack)),
         Keyword::Try => Ok(without_parts(rules, Mode::TryOpen, stack)),
@@ -155,11 +163,11 @@ fn begin_block(alloc: Global, rules: Rules, stack: &mut Stack) -> Result<Step, N
 }
 
 /// The empty statement.
-fn empty(rules: Rules, stack: &mut Stack) -> Step
-    ensures { at_statement (bounds rules) rules.side (stack_view stack.old) (TokenKind.Sign Sign.Semicolon) ≡ move_of result (stack_view stack.new) }
+fn empty(alloc: Global, rules: Rules, stack: &mut Stack) -> Result<Step, NoMemory>
+    ensures { IfOk result (λ r. at_statement (bounds rules) rules.side (stack_view stack.old) (TokenKind.Sign Sign.Semicolon) ≡ move_of r (stack_view stack.new)) }
 {
-    let mode = Mode::HaveStmt(Stmt::Empty, stack.here());
-    without_parts(rules, mode, stack)
+    let mode = Mode::HaveStmt(Box::new(alloc, Stmt::Empty)?, stack.here());
+    Ok(without_parts(rules, mode, stack))
 }
 
 /// A token that is no reserved word where a statement begins.
@@ -173,7 +181,7 @@ fn at_statement(
 {
     match token {
         TokenKind::Sign(Sign::OpenBrace) => begin_block(alloc, rules, stack),
-        TokenKind::Sign(Sign::Semicolon) => Ok(empty(rules, stack)),
+        TokenKind::Sign(Sign::Semicolon) => empty(alloc, rules, stack),
         _ => need_on(alloc, rules, Frame::Value, token, stack),
     }
 }
@@ -210,8 +218,8 @@ pub fn at_body_start(
 }
 
 /// A token behind `break` and its like.
-pub fn at_jump(stmt: Stmt, token: &TokenKind, stack: &mut Stack) -> Step
-    ensures { at_jump (stmt_view stmt) (stack_view stack.old) token.now ≡ move_of result (stack_view stack.new) }
+pub fn at_jump(stmt: Box<Stmt>, token: &TokenKind, stack: &mut Stack) -> Step
+    ensures { at_jump (stmt_view stmt.value) (stack_view stack.old) token.now ≡ move_of result (stack_view stack.new) }
 {
     let reach = stack.here();
     match token {
@@ -252,7 +260,9 @@ pub fn at_return(
     ensures { IfOk result (λ r. at_return (bounds rules) rules.side (stack_view stack.old) token.now line_before ≡ move_of r (stack_view stack.new)) }
 {
     match token {
-        TokenKind::Sign(Sign::Semicolon) => Ok(ended(Stmt::Return(None), stack.here())),
+        TokenKind::Sign(Sign::Semicolon) => {
+            Ok(ended_new(alloc, Stmt::Return(None), stack.here())?)
+        }
         _ => return_value(alloc, rules, token, line_before, stack),
     }
 }

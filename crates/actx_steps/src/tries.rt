@@ -13,7 +13,7 @@ use super::standing::behind_stmt;
 use actx_ast::tree::{Catcher, Clause, Expr, Stmt};
 use actx_data::{NoMemory, Twin};
 use actx_frames::limits::Rules;
-use actx_frames::moves::{ended, go_if, open_list};
+use actx_frames::moves::{ended_new, go_if, open_list};
 use actx_frames::stack::Stack;
 use actx_frames::state::{ListOwner, Mode, Step};
 use actx_frames::word::is_binding;
@@ -116,15 +116,15 @@ pub fn at_finally(
             Ok(Step::Go(Mode::FinallyOpen(block, catcher, reach)))
         }
         _ => {
-            let stmt = try_alone(block, catcher);
+            let stmt = Box::new(alloc, try_alone(block, catcher))?;
             behind_stmt(alloc, rules, stmt, reach, token, stack)
         }
     }
 }
 
 /// A token where the brace of a `switch` is wanted.
-pub fn at_switch(alloc: Global, expr: Expr, reach: usize, token: &TokenKind) -> Step
-    ensures { (s : List Held) → at_switch (expr_view expr) reach s token.now ≡ move_of result s }
+pub fn at_switch(alloc: Global, expr: Box<Expr>, reach: usize, token: &TokenKind) -> Step
+    ensures { (s : List Held) → at_switch (expr_view expr.value) reach s token.now ≡ move_of result s }
 {
     match token {
         TokenKind::Sign(Sign::OpenBrace) => {
@@ -139,26 +139,34 @@ pub fn at_switch(alloc: Global, expr: Expr, reach: usize, token: &TokenKind) -> 
 }
 
 /// A token where the first clause of a `switch` may begin.
-pub fn at_clause(expr: Expr, clauses: Vec<Clause>, reach: usize, token: &TokenKind) -> Step
-    ensures { (s : List Held) → at_clause (expr_view expr) (clauses_view clauses.items) reach s token.now ≡ move_of result s }
+pub fn at_clause(
+    alloc: Global,
+    expr: Box<Expr>,
+    clauses: Vec<Clause>,
+    reach: usize,
+    token: &TokenKind,
+) -> Result<Step, NoMemory>
+    ensures { IfOk result (λ r. (s : List Held) → at_clause (expr_view expr.value) (clauses_view clauses.items) reach s token.now ≡ move_of r s) }
 {
     match token {
-        TokenKind::Sign(Sign::CloseBrace) => ended(Stmt::Switch(expr, clauses), reach),
-        TokenKind::Keyword(Keyword::Case) => Step::Go(Mode::CaseNumber(expr, clauses, reach)),
-        TokenKind::Keyword(Keyword::Default) => {
-            Step::Go(Mode::CaseColon(expr, clauses, None, reach))
+        TokenKind::Sign(Sign::CloseBrace) => {
+            Ok(ended_new(alloc, Stmt::Switch(expr, clauses), reach)?)
         }
-        TokenKind::Sign(_) => Step::Refused,
-        TokenKind::Keyword(_) => Step::Refused,
-        TokenKind::Name(_) => Step::Refused,
-        TokenKind::Number(_) => Step::Refused,
-        TokenKind::Text(_) => Step::Refused,
+        TokenKind::Keyword(Keyword::Case) => Ok(Step::Go(Mode::CaseNumber(expr, clauses, reach))),
+        TokenKind::Keyword(Keyword::Default) => {
+            Ok(Step::Go(Mode::CaseColon(expr, clauses, None, reach)))
+        }
+        TokenKind::Sign(_) => Ok(Step::Refused),
+        TokenKind::Keyword(_) => Ok(Step::Refused),
+        TokenKind::Name(_) => Ok(Step::Refused),
+        TokenKind::Number(_) => Ok(Step::Refused),
+        TokenKind::Text(_) => Ok(Step::Refused),
     }
 }
 
 /// A token where the number of a clause is wanted.
-pub fn at_case(expr: Expr, clauses: Vec<Clause>, reach: usize, token: &TokenKind) -> Step
-    ensures { (s : List Held) → at_case (expr_view expr) (clauses_view clauses.items) reach s token.now ≡ move_of result s }
+pub fn at_case(expr: Box<Expr>, clauses: Vec<Clause>, reach: usize, token: &TokenKind) -> Step
+    ensures { (s : List Held) → at_case (expr_view expr.value) (clauses_view clauses.items) reach s token.now ≡ move_of result s }
 {
     match token {
         TokenKind::Number(n) => Step::Go(Mode::CaseColon(expr, clauses, Some(*n), reach)),
@@ -172,14 +180,14 @@ pub fn at_case(expr: Expr, clauses: Vec<Clause>, reach: usize, token: &TokenKind
 /// A token where the colon of a clause is wanted.
 pub fn at_case_colon(
     alloc: Global,
-    expr: Expr,
+    expr: Box<Expr>,
     clauses: Vec<Clause>,
     number: Option<u64>,
     reach: usize,
     token: &TokenKind,
     stack: &mut Stack,
 ) -> Result<Step, NoMemory>
-    ensures { IfOk result (λ r. at_case_colon (expr_view expr) (clauses_view clauses.items) number reach (stack_view stack.old) token.now ≡ move_of r (stack_view stack.new)) }
+    ensures { IfOk result (λ r. at_case_colon (expr_view expr.value) (clauses_view clauses.items) number reach (stack_view stack.old) token.now ≡ move_of r (stack_view stack.new)) }
 {
     let _unchanged = stack.here(); // this read tells the proof that the stack stays
     match token {

@@ -190,12 +190,12 @@ fn items_renamed(alloc: Global, items: &Vec<ConstItem>) -> Result<Vec<ConstItem>
 
 /// What a function returns as it is emitted.
 #[cycle(renamed)]
-fn value_renamed(alloc: Global, value: &Option<Expr>) -> Result<Option<Expr>, NoMemory>
-    ensures { IfOk result (λ made. maybe_expr (option_map expr_view made) ≡ value_renamed (maybe_expr (option_map expr_view value.now))) }
+fn value_renamed(alloc: Global, value: &Option<Box<Expr>>) -> Result<Option<Box<Expr>>, NoMemory>
+    ensures { IfOk result (λ made. maybe_expr (option_map (λ b. expr_view b.value) made) ≡ value_renamed (maybe_expr (option_map (λ b. expr_view b.value) value.now))) }
 {
     match value {
         None => Ok(None),
-        Some(e) => Ok(Some(renamed(alloc, e)?)),
+        Some(e) => Ok(Some(Box::new(alloc, renamed(alloc, e)?)?)),
     }
 }
 
@@ -206,7 +206,7 @@ fn statement_renamed(alloc: Global, statement: &Stmt) -> Result<Stmt, NoMemory>
 {
     match statement {
         Stmt::Const(items) => Ok(Stmt::Const(items_renamed(alloc, items)?)),
-        Stmt::Value(e) => Ok(Stmt::Value(renamed(alloc, e)?)),
+        Stmt::Value(e) => Ok(Stmt::Value(Box::new(alloc, renamed(alloc, e)?)?)),
         Stmt::Return(value) => Ok(Stmt::Return(value_renamed(alloc, value)?)),
         _ => Ok(Stmt::Empty),
     }

@@ -262,9 +262,9 @@ fn items_taken(n: u64, items: &Vec<ConstItem>) -> Result<u64, Stop>
 
 /// What a function returns.
 #[cycle(taken)]
-fn value_taken(n: u64, value: &Option<Expr>) -> Result<u64, Stop>
-    ensures taken { IfOk result (λ m. (spec.untaken_value n (maybe_expr (option_map expr_view value.now)) ≡ None) × (m ≡ n + maybe_nodes (maybe_expr (option_map expr_view value.now)))) }
-    ensures stop { IfErr result (StopsAt (spec.untaken_value n (maybe_expr (option_map expr_view value.now)))) }
+fn value_taken(n: u64, value: &Option<Box<Expr>>) -> Result<u64, Stop>
+    ensures taken { IfOk result (λ m. (spec.untaken_value n (maybe_expr (option_map (λ b. expr_view b.value) value.now)) ≡ None) × (m ≡ n + maybe_nodes (maybe_expr (option_map (λ b. expr_view b.value) value.now)))) }
+    ensures stop { IfErr result (StopsAt (spec.untaken_value n (maybe_expr (option_map (λ b. expr_view b.value) value.now)))) }
 {
     match value {
         None => Ok(n),

@@ -40,7 +40,7 @@ fn text(alloc: Global, stmt: Stmt) -> Result<Vec<u8>, NoMemory> {
 }
 
 fn value(alloc: Global, e: Expr) -> Result<Vec<u8>, NoMemory> {
-    text(alloc, Stmt::Value(e))
+    text(alloc, Stmt::Value(Box::new(alloc, e)?))
 }
 
 #[test]

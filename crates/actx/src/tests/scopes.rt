@@ -120,28 +120,28 @@ fn statements_and_expressions_stand_where_they_belong(rt: HostRuntime) -> Result
         // () => { return; };
         (m.within(FunctionKind::Arrow, Stmt::Return(None))?, None),
         // this;
-        (Stmt::Value(Expr::This), Some(CheckFault::Misplaced(1))),
+        (Stmt::Value(m.boxed(Expr::This)?), Some(CheckFault::Misplaced(1))),
         // () => { this; };
         (
-            m.within(FunctionKind::Arrow, Stmt::Value(Expr::This))?,
+            m.within(FunctionKind::Arrow, Stmt::Value(m.boxed(Expr::This)?))?,
             Some(CheckFault::Misplaced(3)),
         ),
         // (function () { () => { this; }; });
         (
             m.within(
                 FunctionKind::Normal,
-                m.within(FunctionKind::Arrow, Stmt::Value(Expr::This))?,
+                m.within(FunctionKind::Arrow, Stmt::Value(m.boxed(Expr::This)?))?,
             )?,
             None,
         ),
         // () => { yield; };
         (
-            m.within(FunctionKind::Arrow, Stmt::Value(Expr::Yield(None)))?,
+            m.within(FunctionKind::Arrow, Stmt::Value(m.boxed(Expr::Yield(None))?))?,
             Some(CheckFault::Misplaced(3)),
         ),
         // (function* () { yield; });
         (
-            m.within(FunctionKind::Generator, Stmt::Value(Expr::Yield(None)))?,
+            m.within(FunctionKind::Generator, Stmt::Value(m.boxed(Expr::Yield(None))?))?,
             None,
         ),
         // await null;
@@ -233,7 +233,7 @@ fn a_scope_of_many_names_is_no_slower(rt: HostRuntime) -> Result<(), Fail> {
     for number in 0..50_000u32 {
         let name = numbered(m, number)?;
         items.push(LetItem { name, value: None })?;
-        body.push(Stmt::Value(Expr::Named(numbered(m, number)?)))?;
+        body.push(Stmt::Value(m.boxed(Expr::Named(numbered(m, number)?))?))?;
     }
     body.push(Stmt::Let(items))?;
     let program = Program { body };

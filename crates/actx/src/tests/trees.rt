@@ -79,7 +79,7 @@ pub fn wrap(alloc: Global, kind: u32, e: Expr) -> Result<Expr, AllocError> {
         11 => Ok(Expr::Call(boxed(alloc)?, exprs(alloc, e)?)),
         12 => object(alloc, e),
         13 => {
-            let f = function(alloc, Stmt::Value(e))?;
+            let f = function(alloc, Stmt::Value(Box::new(alloc, e)?))?;
             Ok(Expr::Function(Box::new(alloc, f)?))
         }
         14 => Ok(Expr::Yield(Some(Box::new(alloc, e)?))),
@@ -103,7 +103,7 @@ fn lets(alloc: Global, e: Expr) -> Result<Vec<LetItem>, AllocError> {
     let mut items = Vec::new(alloc);
     items.push(LetItem {
         name: named(alloc)?,
-        value: Some(e),
+        value: Some(Box::new(alloc, e)?),
     })?;
     Ok(items)
 }
@@ -131,18 +131,18 @@ pub fn wrap_stmt(alloc: Global, kind: u32, st: Stmt, e: Expr) -> Result<Stmt, Al
     match kind % 18 {
         0 => Ok(Stmt::Fun(function(alloc, st)?)),
         1 => Ok(Stmt::Block(stmts(alloc, st)?)),
-        2 => Ok(Stmt::If(e, Box::new(alloc, st)?, None)),
+        2 => Ok(Stmt::If(Box::new(alloc, e)?, Box::new(alloc, st)?, None)),
         3 => {
             let yes = Box::new(alloc, Stmt::Let(lets(alloc, e)?))?;
-            Ok(Stmt::If(Expr::This, yes, Some(Box::new(alloc, st)?)))
+            Ok(Stmt::If(Box::new(alloc, Expr::This)?, yes, Some(Box::new(alloc, st)?)))
         }
-        4 => Ok(Stmt::While(e, Box::new(alloc, st)?)),
-        5 => Ok(Stmt::DoWhile(Box::new(alloc, st)?, e)),
-        6 => Ok(Stmt::For(ForInit::Nothing, Some(e), None, Box::new(alloc, st)?)),
+        4 => Ok(Stmt::While(Box::new(alloc, e)?, Box::new(alloc, st)?)),
+        5 => Ok(Stmt::DoWhile(Box::new(alloc, st)?, Box::new(alloc, e)?)),
+        6 => Ok(Stmt::For(ForInit::Nothing, Some(Box::new(alloc, e)?), None, Box::new(alloc, st)?)),
         7 => Ok(Stmt::For(
             ForInit::Let(lets(alloc, e)?),
             None,
-            Some(Expr::Null),
+            Some(Box::new(alloc, Expr::Null)?),
             Box::new(alloc, st)?,
         )),
         8 => Ok(Stmt::For(
@@ -151,21 +151,21 @@ pub fn wrap_stmt(alloc: Global, kind: u32, st: Stmt, e: Expr) -> Result<Stmt, Al
             None,
             Box::new(alloc, st)?,
         )),
-        9 => Ok(Stmt::For(ForInit::Value(e), None, None, Box::new(alloc, st)?)),
+        9 => Ok(Stmt::For(ForInit::Value(Box::new(alloc, e)?), None, None, Box::new(alloc, st)?)),
         10 => Ok(Stmt::ForOf {
             constant: true,
             name: named(alloc)?,
-            over: e,
+            over: Box::new(alloc, e)?,
             body: Box::new(alloc, st)?,
         }),
         11 => Ok(Stmt::ForAwait {
             constant: false,
             name: named(alloc)?,
-            over: e,
+            over: Box::new(alloc, e)?,
             body: Box::new(alloc, st)?,
         }),
         12 => {
-            let thrown = Stmt::Throw(e);
+            let thrown = Stmt::Throw(Box::new(alloc, e)?);
             let catcher = Catcher {
                 name: None,
                 body: stmts(alloc, thrown)?,
@@ -177,14 +177,14 @@ pub fn wrap_stmt(alloc: Global, kind: u32, st: Stmt, e: Expr) -> Result<Stmt, Al
             })
         }
         13 => {
-            let returned = Stmt::Return(Some(e));
+            let returned = Stmt::Return(Some(Box::new(alloc, e)?));
             Ok(Stmt::Try {
                 block: stmts(alloc, returned)?,
                 catcher: None,
                 last: Some(stmts(alloc, st)?),
             })
         }
-        14 => Ok(Stmt::Switch(e, clauses(alloc, st)?)),
+        14 => Ok(Stmt::Switch(Box::new(alloc, e)?, clauses(alloc, st)?)),
         15 => {
             let items = consts(alloc, e)?;
             let mut ss = stmts(alloc, st)?;
@@ -192,7 +192,7 @@ pub fn wrap_stmt(alloc: Global, kind: u32, st: Stmt, e: Expr) -> Result<Stmt, Al
             Ok(Stmt::Block(ss))
         }
         16 => Ok(Stmt::Return(None)),
-        _ => Ok(Stmt::Value(e)),
+        _ => Ok(Stmt::Value(Box::new(alloc, e)?)),
     }
 }
 

@@ -98,7 +98,7 @@ pub(super) fn make_expr(alloc: Global, e: &Expr, done: &mut Vec<Copied>) -> Resu
             let f = make_function(alloc, f, done)?;
             Ok(Expr::Function(Box::new(alloc, f)?))
         }
-        Expr::Yield(value) => Ok(Expr::Yield(make_yielded(alloc, value, done)?)),
+        Expr::Yield(value) => Ok(Expr::Yield(make_maybe(alloc, value, done)?)),
         Expr::YieldAll(_) => Ok(Expr::YieldAll(take_boxed_expr(alloc, done)?)),
         Expr::Await(_) => Ok(Expr::Await(take_boxed_expr(alloc, done)?)),
         Expr::Form(form, _) => Ok(Expr::Form(*form, take_exprs(done)?)),
@@ -141,7 +141,7 @@ pub(super) fn make_prop_key(
     }
 }
 
-fn make_yielded(
+pub(super) fn make_maybe(
     alloc: Global,
     e: &Option<Box<Expr>>,
     done: &mut Vec<Copied>,

@@ -9,8 +9,7 @@ use super::done::{
     Copied, put, take_clauses, take_consts, take_expr, take_exprs, take_lets, take_properties,
     take_stmt, take_stmts,
 };
-use super::make_exprs::make_prop_key;
-use super::make_stmts::make_maybe;
+use super::make_exprs::{make_maybe, make_prop_key};
 use crate::tree::{Clause, ConstItem, Expr, LetItem, Property, Stmt};
 use actx_data::{NoMemory, Twin};
 use std::alloc::Global;

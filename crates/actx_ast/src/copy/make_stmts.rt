@@ -6,9 +6,9 @@ ghost use Rattle.actx_grammar.specs.Tree as t;
 ghost use Rattle.actx_ast.specs.View.{catch_of, catcher_view, expr_view, init_view, last_of, maybe_expr, maybe_stmt, stmt_view};
 
 use super::done::{
-    Copied, take_boxed_stmt, take_clauses, take_consts, take_expr, take_lets, take_stmts,
+    Copied, take_boxed_expr, take_boxed_stmt, take_clauses, take_consts, take_lets, take_stmts,
 };
-use super::make_exprs::{copy_maybe_name, make_function};
+use super::make_exprs::{copy_maybe_name, make_function, make_maybe};
 use crate::tree::{Catcher, Expr, ForInit, Stmt};
 use actx_data::{NoMemory, Twin};
 use std::alloc::Global;
@@ -23,18 +23,18 @@ pub(super) fn make_stmt(alloc: Global, st: &Stmt, done: &mut Vec<Copied>) -> Res
         Stmt::Fun(f) => Ok(Stmt::Fun(make_function(alloc, f, done)?)),
         Stmt::Block(_) => Ok(Stmt::Block(take_stmts(done)?)),
         Stmt::If(_, _, no) => {
-            let test = take_expr(done)?;
+            let test = take_boxed_expr(alloc, done)?;
             let yes = take_boxed_stmt(alloc, done)?;
             let no = make_other(alloc, no, done)?;
             Ok(Stmt::If(test, yes, no))
         }
         Stmt::While(_, _) => {
-            let test = take_expr(done)?;
+            let test = take_boxed_expr(alloc, done)?;
             let body = take_boxed_stmt(alloc, done)?;
             Ok(Stmt::While(test, body))
         }
         Stmt::DoWhile(_, _) => {
-            let test = take_expr(done)?;
+            let test = take_boxed_expr(alloc, done)?;
             let body = take_boxed_stmt(alloc, done)?;
             Ok(Stmt::DoWhile(body, test))
         }
@@ -43,11 +43,11 @@ pub(super) fn make_stmt(alloc: Global, st: &Stmt, done: &mut Vec<Copied>) -> Res
             let init = make_init(alloc, init, done)?;
             let test = make_maybe(alloc, test, done)?;
             let update = make_maybe(alloc, update, done)?;
-            Ok(Stmt::For(init, test, update, body))
+            Ok(looped(init, test, update, body))
         }
         Stmt::ForOf { constant, name, .. } => {
             let name = name.copy(alloc)?;
-            let over = take_expr(done)?;
+            let over = take_boxed_expr(alloc, done)?;
             let body = take_boxed_stmt(alloc, done)?;
             Ok(Stmt::ForOf {
                 constant: *constant,
@@ -58,7 +58,7 @@ pub(super) fn make_stmt(alloc: Global, st: &Stmt, done: &mut Vec<Copied>) -> Res
         }
         Stmt::ForAwait { constant, name, .. } => {
             let name = name.copy(alloc)?;
-            let over = take_expr(done)?;
+            let over = take_boxed_expr(alloc, done)?;
             let body = take_boxed_stmt(alloc, done)?;
             Ok(Stmt::ForAwait {
                 constant: *constant,
@@ -70,7 +70,7 @@ pub(super) fn make_stmt(alloc: Global, st: &Stmt, done: &mut Vec<Copied>) -> Res
         Stmt::Break => Ok(Stmt::Break),
         Stmt::Continue => Ok(Stmt::Continue),
         Stmt::Return(value) => Ok(Stmt::Return(make_maybe(alloc, value, done)?)),
-        Stmt::Throw(_) => Ok(Stmt::Throw(take_expr(done)?)),
+        Stmt::Throw(_) => Ok(Stmt::Throw(take_boxed_expr(alloc, done)?)),
         Stmt::Try { catcher, last, .. } => {
             let block = take_stmts(done)?;
             let catcher = make_catcher(alloc, catcher, done)?;
@@ -81,14 +81,25 @@ pub(super) fn make_stmt(alloc: Global, st: &Stmt, done: &mut Vec<Copied>) -> Res
                 last,
             })
         }
-        Stmt::Value(_) => Ok(Stmt::Value(take_expr(done)?)),
+        Stmt::Value(_) => Ok(Stmt::Value(take_boxed_expr(alloc, done)?)),
         Stmt::Empty => Ok(Stmt::Empty),
         Stmt::Switch(_, _) => {
-            let e = take_expr(done)?;
+            let e = take_boxed_expr(alloc, done)?;
             let clauses = take_clauses(done)?;
             Ok(Stmt::Switch(e, clauses))
         }
     }
+}
+
+fn looped(
+    init: ForInit,
+    test: Option<Box<Expr>>,
+    update: Option<Box<Expr>>,
+    body: Box<Stmt>,
+) -> Stmt
+    ensures { stmt_view result ≡ t.For (init_view init) (maybe_expr (option_map (λ b. expr_view b.value) test)) (maybe_expr (option_map (λ b. expr_view b.value) update)) (stmt_view body.value) }
+{
+    Stmt::For(init, test, update, body)
 }
 
 fn make_init(alloc: Global, init: &ForInit, done: &mut Vec<Copied>) -> Result<ForInit, NoMemory>
@@ -106,26 +117,9 @@ fn make_init(alloc: Global, init: &ForInit, done: &mut Vec<Copied>) -> Result<Fo
             Ok(ForInit::Const(items))
         }
         ForInit::Value(_) => {
-            let e = take_expr(done)?;
+            let e = take_boxed_expr(alloc, done)?;
             Ok(ForInit::Value(e))
         }
-    }
-}
-
-pub(super) fn make_maybe(
-    alloc: Global,
-    e: &Option<Expr>,
-    done: &mut Vec<Copied>,
-) -> Result<Option<Expr>, NoMemory>
-    ensures parts { IfOk result (λ r. copied done.old.items ≡ maybe_onto (maybe_expr (option_map expr_view r)) (copied done.new.items)) }
-    ensures like { IfOk result (λ r. (k : t.MaybeExpr → List Seen → List Seen) (s : List Seen) → with_maybe (maybe_expr (option_map expr_view e.now)) k (maybe_onto (maybe_expr (option_map expr_view r)) s) ≡ k (maybe_expr (option_map expr_view r)) s) }
-{
-    match e {
-        Some(_) => {
-            let e = take_expr(done)?;
-            Ok(Some(e))
-        }
-        None => Ok(None),
     }
 }
 

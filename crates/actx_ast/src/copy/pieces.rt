@@ -20,11 +20,14 @@ fn copy_body(alloc: Global, body: &[Stmt]) -> Result<Vec<Stmt>, NoMemory>
     take_stmts(&mut done)
 }
 
-fn copy_maybe(alloc: Global, e: &Option<Expr>) -> Result<Option<Expr>, NoMemory>
-    ensures { IfOk result (λ r. maybe_expr (option_map expr_view r) ≡ maybe_expr (option_map expr_view e.now)) }
+fn copy_maybe(alloc: Global, e: &Option<Box<Expr>>) -> Result<Option<Box<Expr>>, NoMemory>
+    ensures { IfOk result (λ r. maybe_expr (option_map (λ b. expr_view b.value) r) ≡ maybe_expr (option_map (λ b. expr_view b.value) e.now)) }
 {
     match e {
-        Some(e) => Ok(Some(e.copy(alloc)?)),
+        Some(e) => {
+            let e = e.copy(alloc)?;
+            Ok(Some(Box::new(alloc, e)?))
+        }
         None => Ok(None),
     }
 }
@@ -117,7 +120,10 @@ impl Twin for ForInit {
                 let mut done = copy_of(alloc, Work::Consts(items))?;
                 Ok(ForInit::Const(take_consts(&mut done)?))
             }
-            ForInit::Value(e) => Ok(ForInit::Value(e.copy(alloc)?)),
+            ForInit::Value(e) => {
+                let e = e.copy(alloc)?;
+                Ok(ForInit::Value(Box::new(alloc, e)?))
+            }
         }
     }
 }

@@ -87,12 +87,12 @@ pub(super) fn for_loop<'a>(
     alloc: Global,
     work: &mut Vec<Work<'a>>,
     init: &'a ForInit,
-    test: &'a Option<Expr>,
-    update: &'a Option<Expr>,
+    test: &'a Option<Box<Expr>>,
+    update: &'a Option<Box<Expr>>,
     body: &'a Stmt,
 ) -> Result<(), NoMemory>
-    ensures rest { OnOk result (rest_of work.new.items ≡ spec.spell_stmt (node.For (init_view init.now) (maybe_expr (option_map expr_view test.now)) (maybe_expr (option_map expr_view update.now)) (stmt_view body.now)) ++ rest_of work.old.items) }
-    ensures weight { OnOk result (weigh work.new.items ≤ weigh work.old.items + 5 + init_size (init_view init.now) + maybe_size (maybe_expr (option_map expr_view test.now)) + maybe_size (maybe_expr (option_map expr_view update.now)) + stmt_size (stmt_view body.now)) }
+    ensures rest { OnOk result (rest_of work.new.items ≡ spec.spell_stmt (node.For (init_view init.now) (maybe_expr (option_map (λ b. expr_view b.value) test.now)) (maybe_expr (option_map (λ b. expr_view b.value) update.now)) (stmt_view body.now)) ++ rest_of work.old.items) }
+    ensures weight { OnOk result (weigh work.new.items ≤ weigh work.old.items + 5 + init_size (init_view init.now) + maybe_size (maybe_expr (option_map (λ b. expr_view b.value) test.now)) + maybe_size (maybe_expr (option_map (λ b. expr_view b.value) update.now)) + stmt_size (stmt_view body.now)) }
 {
     push(work, Work::Statement(body))?;
     sign(work, Sign::CloseParen)?;
@@ -106,9 +106,9 @@ pub(super) fn for_loop<'a>(
 }
 
 /// An expression that may be absent.
-fn maybe<'a>(work: &mut Vec<Work<'a>>, value: &'a Option<Expr>) -> Result<(), NoMemory>
-    ensures rest { OnOk result (rest_of work.new.items ≡ spec.spell_maybe (maybe_expr (option_map expr_view value.now)) ++ rest_of work.old.items) }
-    ensures weight { OnOk result (weigh work.new.items ≤ weigh work.old.items + maybe_size (maybe_expr (option_map expr_view value.now))) }
+fn maybe<'a>(work: &mut Vec<Work<'a>>, value: &'a Option<Box<Expr>>) -> Result<(), NoMemory>
+    ensures rest { OnOk result (rest_of work.new.items ≡ spec.spell_maybe (maybe_expr (option_map (λ b. expr_view b.value) value.now)) ++ rest_of work.old.items) }
+    ensures weight { OnOk result (weigh work.new.items ≤ weigh work.old.items + maybe_size (maybe_expr (option_map (λ b. expr_view b.value) value.now))) }
 {
     match value {
         Some(e) => push(work, Work::Tree(e, false, 1)),

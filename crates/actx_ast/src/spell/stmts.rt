@@ -112,9 +112,9 @@ fn const_items<'a>(
 }
 
 /// `return ;` and `return value ;`
-fn returned<'a>(work: &mut Vec<Work<'a>>, value: &'a Option<Expr>) -> Result<(), NoMemory>
-    ensures rest { OnOk result (rest_of work.new.items ≡ spec.spell_stmt (node.Return (maybe_expr (option_map expr_view value.now))) ++ rest_of work.old.items) }
-    ensures weight { OnOk result (weigh work.new.items ≤ weigh work.old.items + 2 + maybe_size (maybe_expr (option_map expr_view value.now))) }
+fn returned<'a>(work: &mut Vec<Work<'a>>, value: &'a Option<Box<Expr>>) -> Result<(), NoMemory>
+    ensures rest { OnOk result (rest_of work.new.items ≡ spec.spell_stmt (node.Return (maybe_expr (option_map (λ b. expr_view b.value) value.now))) ++ rest_of work.old.items) }
+    ensures weight { OnOk result (weigh work.new.items ≤ weigh work.old.items + 2 + maybe_size (maybe_expr (option_map (λ b. expr_view b.value) value.now))) }
 {
     match value {
         None => ended(work, Keyword::Return),

@@ -23,8 +23,8 @@ pub(super) enum Part {
     Clauses(Vec<Clause>),
 }
 
-/// The room for the parts that one step adds: at most those of a list and of a `for` in it.
-const ROOM: usize = 11;
+/// The room for the parts that one step adds: at most the rest of a list and those of a `for` in it.
+const ROOM: usize = 5;
 
 #[tactic(auto, using(crate::proofs::Parts::AllBelow_put, crate::proofs::Parts::weigh_put))]
 fn put(parts: &mut Vec<Part>, part: Part)
@@ -67,10 +67,10 @@ fn open_exprs(mut es: Vec<Expr>, parts: &mut Vec<Part>)
 
 #[tactic(auto, using(crate::proofs::Parts::listed_last))]
 fn open_stmts(mut ss: Vec<Stmt>, parts: &mut Vec<Part>)
-    requires { vec_len parts.old + 11 ≤ vec_capacity parts.old }
+    requires { vec_len parts.old + 5 ≤ vec_capacity parts.old }
     ensures below { (n : ℕ) → IsBelow n (Stmts ss) → AllBelow n parts.old.items → AllBelow n parts.new.items }
     ensures weight { weigh parts.new.items < weigh parts.old.items + weight (Stmts ss) }
-    ensures length { vec_len parts.new ≤ vec_len parts.old + 11 }
+    ensures length { vec_len parts.new ≤ vec_len parts.old + 5 }
     ensures capacity { vec_capacity parts.new ≡ vec_capacity parts.old }
 {
     match ss.pop() {
@@ -101,10 +101,10 @@ fn open_properties(mut ps: Vec<Property>, parts: &mut Vec<Part>)
 
 #[tactic(auto, using(crate::proofs::Parts::listed_last))]
 fn open_lets(mut items: Vec<LetItem>, parts: &mut Vec<Part>)
-    requires { vec_len parts.old + 4 ≤ vec_capacity parts.old }
+    requires { vec_len parts.old + 2 ≤ vec_capacity parts.old }
     ensures below { (n : ℕ) → IsBelow n (Lets items) → AllBelow n parts.old.items → AllBelow n parts.new.items }
     ensures weight { weigh parts.new.items < weigh parts.old.items + weight (Lets items) }
-    ensures length { vec_len parts.new ≤ vec_len parts.old + 4 }
+    ensures length { vec_len parts.new ≤ vec_len parts.old + 2 }
     ensures capacity { vec_capacity parts.new ≡ vec_capacity parts.old }
 {
     match items.pop() {
@@ -153,10 +153,10 @@ fn open_clauses(mut clauses: Vec<Clause>, parts: &mut Vec<Part>)
 impl Part {
     /// Lets the part's own memory go, and keeps what it held.
     fn open(self, parts: &mut Vec<Part>)
-        requires { vec_len parts.old + 11 ≤ vec_capacity parts.old }
+        requires { vec_len parts.old + 5 ≤ vec_capacity parts.old }
         ensures below { (n : ℕ) → IsBelow n self → AllBelow n parts.old.items → AllBelow n parts.new.items }
         ensures weight { weigh parts.new.items < weigh parts.old.items + weight self }
-        ensures length { vec_len parts.new ≤ vec_len parts.old + 11 }
+        ensures length { vec_len parts.new ≤ vec_len parts.old + 5 }
         ensures capacity { vec_capacity parts.new ≡ vec_capacity parts.old }
     {
         match self {

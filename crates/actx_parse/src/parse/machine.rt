@@ -100,7 +100,7 @@ fn step(
         Mode::KeyAsync(properties, reach) => {
             behind_async(alloc, properties, reach, kind, line_before, stack)
         }
-        Mode::KeyEnd(properties, reach) => Ok(behind_property(properties, reach, kind)),
+        Mode::KeyEnd(properties, reach) => behind_property(alloc, properties, reach, kind),
         Mode::MethodKey(properties, of, reach) => {
             at_method_key(alloc, properties, of, reach, kind, stack)
         }
@@ -112,7 +112,7 @@ fn step(
         Mode::WordsNext(words) => at_words(alloc, rules, words, kind, stack),
         Mode::LetName(of, items, reach) => at_let_name(alloc, rules, of, items, reach, kind),
         Mode::LetBehind(of, items, name, reach) => {
-            at_let_behind(rules, of, items, name, reach, kind, stack)
+            at_let_behind(alloc, rules, of, items, name, reach, kind, stack)
         }
         Mode::ConstName(of, items, reach) => at_const_name(alloc, rules, of, items, reach, kind),
         Mode::ConstBehind(of, items, name, reach) => {
@@ -159,7 +159,7 @@ fn step(
         }
         Mode::SwitchOpen => at_open(Frame::Switch, kind, stack),
         Mode::SwitchBrace(operand) => { Ok(at_switch(alloc, operand.expr, operand.reach, kind)) }
-        Mode::ClauseNext(expr, clauses, reach) => Ok(at_clause(expr, clauses, reach, kind)),
+        Mode::ClauseNext(expr, clauses, reach) => at_clause(alloc, expr, clauses, reach, kind),
         Mode::CaseNumber(expr, clauses, reach) => Ok(at_case(expr, clauses, reach, kind)),
         Mode::CaseColon(expr, clauses, number, reach) => {
             at_case_colon(alloc, expr, clauses, number, reach, kind, stack)
@@ -216,11 +216,11 @@ fn finish_standing(held: Standing, stack: &mut Stack) -> Result<Option<Program>,
 /// The program, where this statement is its last.
 fn finish_stmt(
     alloc: Global,
-    stmt: Stmt,
+    stmt: Box<Stmt>,
     reach: usize,
     stack: &mut Stack,
 ) -> Result<Option<Program>, NoMemory>
-    ensures { IfOk result (λ found. option_map program_view found ≡ finish_standing (settle_stmt (stmt_view stmt) reach (stack_view stack.old))) }
+    ensures { IfOk result (λ found. option_map program_view found ≡ finish_standing (settle_stmt (stmt_view stmt.value) reach (stack_view stack.old))) }
 {
     let held = settle_stmt(alloc, Standing { stmt, reach }, stack)?;
     finish_standing(held, stack)
@@ -234,7 +234,8 @@ fn finish(alloc: Global, mode: Mode, stack: &mut Stack) -> Result<Option<Program
         Mode::Start => Ok(finish_list(stack)),
         Mode::HaveStmt(stmt, reach) => finish_stmt(alloc, stmt, reach, stack),
         Mode::FinallyNext(block, catcher, reach) => {
-            finish_stmt(alloc, try_alone(block, catcher), reach, stack)
+            let stmt = Box::new(alloc, try_alone(block, catcher))?;
+            finish_stmt(alloc, stmt, reach, stack)
         }
         other => {
             drop(other);

@@ -162,10 +162,10 @@ fn short<'a>(walk: &mut Walk<'a>, work: &mut Vec<Item<'a>>, stmt: &'a Stmt) -> R
 fn short_value<'a>(
     walk: &mut Walk<'a>,
     work: &mut Vec<Item<'a>>,
-    value: &'a Option<Expr>,
+    value: &'a Option<Box<Expr>>,
 ) -> Result<(), NoMemory>
-    ensures walk { OnOk result (acts work.new.items walk.new ≡ acts work.old.items (spec.short_value (maybe_expr (option_map expr_view value.now)) walk.old)) }
-    ensures weight { OnOk result (weigh work.new.items ≤ weigh work.old.items + 1 + maybe_size (maybe_expr (option_map expr_view value.now))) }
+    ensures walk { OnOk result (acts work.new.items walk.new ≡ acts work.old.items (spec.short_value (maybe_expr (option_map (λ b. expr_view b.value) value.now)) walk.old)) }
+    ensures weight { OnOk result (weigh work.new.items ≤ weigh work.old.items + 1 + maybe_size (maybe_expr (option_map (λ b. expr_view b.value) value.now))) }
 {
     match value {
         None => Ok(()),

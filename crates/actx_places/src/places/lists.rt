@@ -153,8 +153,8 @@ fn let_item<'a>(
     work: &mut Vec<Item<'a>>,
     item: &'a LetItem,
 ) -> Result<(), NoMemory>
-    ensures walk { OnOk result (acts work.new.items walk.new ≡ acts work.old.items (spec.let_value (maybe_expr (option_map expr_view item.now.value)) (spec.step (spec.mark walk.old)))) }
-    ensures weight { OnOk result (weigh work.new.items ≤ weigh work.old.items + 1 + maybe_size (maybe_expr (option_map expr_view item.now.value))) }
+    ensures walk { OnOk result (acts work.new.items walk.new ≡ acts work.old.items (spec.let_value (maybe_expr (option_map (λ b. expr_view b.value) item.now.value)) (spec.step (spec.mark walk.old)))) }
+    ensures weight { OnOk result (weigh work.new.items ≤ weigh work.old.items + 1 + maybe_size (maybe_expr (option_map (λ b. expr_view b.value) item.now.value))) }
 {
     walk.mark()?;
     walk.step();
@@ -248,8 +248,8 @@ fn with_lets<'a>(
     first: &'a LetItem,
     rest: &'a [LetItem],
 ) -> Result<(), NoMemory>
-    ensures walk { OnOk result (acts work.new.items walk.new ≡ acts work.old.items (spec.more_lets (lets_view rest.now) (spec.let_value (maybe_expr (option_map expr_view first.now.value)) (spec.step (spec.mark walk.old))))) }
-    ensures weight { OnOk result (weigh work.new.items ≤ weigh work.old.items + 2 + maybe_size (maybe_expr (option_map expr_view first.now.value)) + lets_size (lets_view rest.now)) }
+    ensures walk { OnOk result (acts work.new.items walk.new ≡ acts work.old.items (spec.more_lets (lets_view rest.now) (spec.let_value (maybe_expr (option_map (λ b. expr_view b.value) first.now.value)) (spec.step (spec.mark walk.old))))) }
+    ensures weight { OnOk result (weigh work.new.items ≤ weigh work.old.items + 2 + maybe_size (maybe_expr (option_map (λ b. expr_view b.value) first.now.value)) + lets_size (lets_view rest.now)) }
 {
     push(work, Item::Lets(rest))?;
     let_item(walk, work, first)

@@ -37,12 +37,12 @@ pub(super) fn for_loop<'a>(
     walk: &mut Walk<'a>,
     work: &mut Vec<Item<'a>>,
     start: &'a ForInit,
-    test: &'a Option<Expr>,
-    update: &'a Option<Expr>,
+    test: &'a Option<Box<Expr>>,
+    update: &'a Option<Box<Expr>>,
     body: &'a Stmt,
 ) -> Result<(), NoMemory>
-    ensures walk { OnOk result (acts work.new.items walk.new ≡ acts work.old.items (spec.stmt (node.For (init_view start.now) (maybe_expr (option_map expr_view test.now)) (maybe_expr (option_map expr_view update.now)) (stmt_view body.now)) walk.old)) }
-    ensures weight { OnOk result (weigh work.new.items < weigh work.old.items + 24 + init_size (init_view start.now) + maybe_size (maybe_expr (option_map expr_view test.now)) + maybe_size (maybe_expr (option_map expr_view update.now)) + stmt_size (stmt_view body.now)) }
+    ensures walk { OnOk result (acts work.new.items walk.new ≡ acts work.old.items (spec.stmt (node.For (init_view start.now) (maybe_expr (option_map (λ b. expr_view b.value) test.now)) (maybe_expr (option_map (λ b. expr_view b.value) update.now)) (stmt_view body.now)) walk.old)) }
+    ensures weight { OnOk result (weigh work.new.items < weigh work.old.items + 24 + init_size (init_view start.now) + maybe_size (maybe_expr (option_map (λ b. expr_view b.value) test.now)) + maybe_size (maybe_expr (option_map (λ b. expr_view b.value) update.now)) + stmt_size (stmt_view body.now)) }
 {
     walk.mark()?;
     walk.pass(2);
@@ -57,9 +57,9 @@ pub(super) fn for_loop<'a>(
 
 /// An expression that may be left out, later.
 #[tactic(auto, using(crate::proofs::WalkPieces::acts_last))]
-pub(super) fn maybe<'a>(work: &mut Vec<Item<'a>>, e: &'a Option<Expr>) -> Result<(), NoMemory>
-    ensures walk { OnOk result ((w : spec.Walk) → acts work.new.items w ≡ acts work.old.items (spec.maybe (maybe_expr (option_map expr_view e.now)) w)) }
-    ensures weight { OnOk result (weigh work.new.items ≤ weigh work.old.items + maybe_size (maybe_expr (option_map expr_view e.now))) }
+pub(super) fn maybe<'a>(work: &mut Vec<Item<'a>>, e: &'a Option<Box<Expr>>) -> Result<(), NoMemory>
+    ensures walk { OnOk result ((w : spec.Walk) → acts work.new.items w ≡ acts work.old.items (spec.maybe (maybe_expr (option_map (λ b. expr_view b.value) e.now)) w)) }
+    ensures weight { OnOk result (weigh work.new.items ≤ weigh work.old.items + maybe_size (maybe_expr (option_map (λ b. expr_view b.value) e.now))) }
 {
     match e {
         None => Ok(()),

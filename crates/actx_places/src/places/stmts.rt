@@ -207,10 +207,10 @@ fn if_else<'a>(
 fn returned<'a>(
     walk: &mut Walk<'a>,
     work: &mut Vec<Item<'a>>,
-    value: &'a Option<Expr>,
+    value: &'a Option<Box<Expr>>,
 ) -> Result<(), NoMemory>
-    ensures walk { OnOk result (acts work.new.items walk.new ≡ acts work.old.items (spec.step (spec.maybe (maybe_expr (option_map expr_view value.now)) (spec.step (spec.mark walk.old))))) }
-    ensures weight { OnOk result (weigh work.new.items ≤ weigh work.old.items + 1 + maybe_size (maybe_expr (option_map expr_view value.now))) }
+    ensures walk { OnOk result (acts work.new.items walk.new ≡ acts work.old.items (spec.step (spec.maybe (maybe_expr (option_map (λ b. expr_view b.value) value.now)) (spec.step (spec.mark walk.old))))) }
+    ensures weight { OnOk result (weigh work.new.items ≤ weigh work.old.items + 1 + maybe_size (maybe_expr (option_map (λ b. expr_view b.value) value.now))) }
 {
     walk.mark()?;
     walk.step();

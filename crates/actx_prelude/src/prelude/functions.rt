@@ -6,8 +6,8 @@ ghost use Rattle.actx_ast.specs.View.{expr_view, exprs_view, stmt_view, stmts_vi
 ghost use Rattle.actx_rules.specs.Prelude as spec;
 
 use super::shapes::{
-    and, and_named, both, call, call_of, constant, ended_by, freeze, member_of, named, one, only,
-    property, returned, same, set_member, then, three, two, units, when,
+    and, and_named, both, call, call_of, constant, ended_by, evaluated, freeze, member_of, named,
+    one, only, property, returned, same, set_member, then, three, two, units, when,
 };
 use actx_ast::tree::{Expr, Property, Stmt};
 use actx_data::{NoMemory, Units};
@@ -36,10 +36,10 @@ fn find_in_list(alloc: Global) -> Result<Vec<Stmt>, NoMemory>
     ensures { IfOk result (λ v. stmts_view v.items ≡ spec.find_in_list) }
 {
     let value = member_of(alloc, b"list", b"value")?;
-    let found = only(alloc, returned(value))?;
+    let found = only(alloc, returned(alloc, value)?)?;
     let test = is_found(alloc)?;
     let rest = on_rest(alloc, b"__find", b"other")?;
-    both(alloc, when(alloc, test, found)?, returned(rest))
+    both(alloc, when(alloc, test, found)?, returned(alloc, rest)?)
 }
 
 /// The body of `__find`.
@@ -49,7 +49,7 @@ pub fn find_body(alloc: Global) -> Result<Vec<Stmt>, NoMemory>
     let test = named(alloc, b"list")?;
     let yes = find_in_list(alloc)?;
     let other = named(alloc, b"other")?;
-    both(alloc, when(alloc, test, yes)?, returned(other))
+    both(alloc, when(alloc, test, yes)?, returned(alloc, other)?)
 }
 
 /// An entry of a mapping.
@@ -69,7 +69,7 @@ fn with_found(alloc: Global) -> Result<Vec<Stmt>, NoMemory>
     let value = named(alloc, b"value")?;
     let rest = member_of(alloc, b"list", b"rest")?;
     let made = entry(alloc, number, value, rest)?;
-    only(alloc, returned(made))
+    only(alloc, returned(alloc, made)?)
 }
 
 fn with_in_list(alloc: Global) -> Result<Vec<Stmt>, NoMemory>
@@ -81,7 +81,7 @@ fn with_in_list(alloc: Global) -> Result<Vec<Stmt>, NoMemory>
     let value = member_of(alloc, b"list", b"value")?;
     let rest = on_rest(alloc, b"__with", b"value")?;
     let made = entry(alloc, number, value, rest)?;
-    both(alloc, when(alloc, test, yes)?, returned(made))
+    both(alloc, when(alloc, test, yes)?, returned(alloc, made)?)
 }
 
 /// The body of `__with`.
@@ -93,7 +93,7 @@ pub fn with_body(alloc: Global) -> Result<Vec<Stmt>, NoMemory>
     let number = named(alloc, b"number")?;
     let value = named(alloc, b"value")?;
     let made = entry(alloc, number, value, Expr::Undefined)?;
-    both(alloc, when(alloc, test, yes)?, returned(made))
+    both(alloc, when(alloc, test, yes)?, returned(alloc, made)?)
 }
 
 /// `const state = __states.get(this);`.
@@ -123,7 +123,7 @@ fn note(alloc: Global) -> Result<Stmt, NoMemory>
     let parts = and_named(alloc, parts, b"number")?;
     let parts = and_named(alloc, parts, b"value")?;
     let parts = and(parts, Expr::Undefined)?;
-    Ok(Stmt::Value(Expr::Form(Form::Note, parts)))
+    evaluated(alloc, Expr::Form(Form::Note, parts))
 }
 
 /// The body of a variable's `get`.
@@ -138,7 +138,7 @@ pub fn get_body(alloc: Global) -> Result<Vec<Stmt>, NoMemory>
     )?;
     let list = then(list, constant(alloc, b"value", value_found(alloc)?)?)?;
     let list = then(list, note(alloc)?)?;
-    then(list, returned(named(alloc, b"value")?))
+    then(list, returned(alloc, named(alloc, b"value")?)?)
 }
 
 /// `f.call(undefined, a, b, c, d, e, g)`.
@@ -170,7 +170,7 @@ fn enter(alloc: Global) -> Result<Stmt, NoMemory>
 fn inside(alloc: Global) -> Result<Stmt, NoMemory>
     ensures { IfOk result (λ s. stmt_view s ≡ spec.ended_by spec.run_block spec.run_last) }
 {
-    let block = only(alloc, returned(handed_on(alloc)?))?;
+    let block = only(alloc, returned(alloc, handed_on(alloc)?)?)?;
     let old = named(alloc, b"old")?;
     let last = only(alloc, set_member(alloc, b"__now", b"mapping", old)?)?;
     Ok(ended_by(block, last))
@@ -222,7 +222,7 @@ fn keep_state(alloc: Global) -> Result<Stmt, NoMemory>
     let state = new_state(alloc)?;
     let set = member_of(alloc, b"__states", b"set")?;
     let variable = named(alloc, b"variable")?;
-    Ok(Stmt::Value(call(alloc, set, two(alloc, variable, state)?)?))
+    evaluated(alloc, call(alloc, set, two(alloc, variable, state)?)?)
 }
 
 /// The body of `__make`.
@@ -233,7 +233,7 @@ pub fn make_body(alloc: Global) -> Result<Vec<Stmt>, NoMemory>
     let number = named(alloc, b"number")?;
     let list = then(list, set_member(alloc, b"__now", b"count", number)?)?;
     let list = then(list, keep_state(alloc)?)?;
-    then(list, returned(named(alloc, b"variable")?))
+    then(list, returned(alloc, named(alloc, b"variable")?)?)
 }
 
 /// `__make(name, value)`.
@@ -248,7 +248,7 @@ fn make_call(alloc: Global, name: Expr, value: Expr) -> Result<Expr, NoMemory>
 fn made(alloc: Global, name: Expr, value: Expr) -> Result<Stmt, NoMemory>
     ensures { IfOk result (λ s. stmt_view s ≡ spec.returns (t.Call (t.Named spec.name_make) (spec.two (expr_view name) (expr_view value)))) }
 {
-    Ok(returned(make_call(alloc, name, value)?))
+    returned(alloc, make_call(alloc, name, value)?)
 }
 
 /// The empty text.
@@ -277,7 +277,8 @@ fn variable_options(alloc: Global) -> Result<Vec<Stmt>, NoMemory>
     let value = member_of(alloc, b"options", b"defaultValue")?;
     let list = both(alloc, name, constant(alloc, b"value", value)?)?;
     let list = then(list, unnamed(alloc)?)?;
-    let list = then(list, Stmt::Value(member_of(alloc, b"name", b"length")?))?;
+    let length = member_of(alloc, b"name", b"length")?;
+    let list = then(list, evaluated(alloc, length)?)?;
     let name = named(alloc, b"name")?;
     then(list, made(alloc, name, named(alloc, b"value")?)?)
 }

@@ -106,16 +106,23 @@ pub fn constant(alloc: Global, word: &[u8], value: Expr) -> Result<Stmt, NoMemor
     Ok(Stmt::Const(vec![in alloc; ConstItem { name, value }]?))
 }
 
-/// `return e;`.
-pub fn returned(e: Expr) -> Stmt
-    ensures { stmt_view result ≡ spec.returns (expr_view e) }
+/// `e;`.
+pub fn evaluated(alloc: Global, e: Expr) -> Result<Stmt, NoMemory>
+    ensures { IfOk result (λ s. stmt_view s ≡ t.Value (expr_view e)) }
 {
-    Stmt::Return(Some(e))
+    Ok(Stmt::Value(Box::new(alloc, e)?))
+}
+
+/// `return e;`.
+pub fn returned(alloc: Global, e: Expr) -> Result<Stmt, NoMemory>
+    ensures { IfOk result (λ s. stmt_view s ≡ spec.returns (expr_view e)) }
+{
+    Ok(Stmt::Return(Some(Box::new(alloc, e)?)))
 }
 
 /// A statement that is executed where a test holds, and one where it doesn't.
-fn branch(test: Expr, yes: Box<Stmt>, no: Option<Box<Stmt>>) -> Stmt
-    ensures { stmt_view result ≡ t.If (expr_view test) (stmt_view yes.value) (maybe_stmt (option_map (λ b. stmt_view b.value) no)) }
+fn branch(test: Box<Expr>, yes: Box<Stmt>, no: Option<Box<Stmt>>) -> Stmt
+    ensures { stmt_view result ≡ t.If (expr_view test.value) (stmt_view yes.value) (maybe_stmt (option_map (λ b. stmt_view b.value) no)) }
 {
     Stmt::If(test, yes, no)
 }
@@ -124,6 +131,7 @@ fn branch(test: Expr, yes: Box<Stmt>, no: Option<Box<Stmt>>) -> Stmt
 pub fn when(alloc: Global, test: Expr, yes: Vec<Stmt>) -> Result<Stmt, NoMemory>
     ensures { IfOk result (λ s. stmt_view s ≡ spec.when (expr_view test) (stmts_view yes.items)) }
 {
+    let test = Box::new(alloc, test)?;
     let yes = Box::new(alloc, Stmt::Block(yes))?;
     Ok(branch(test, yes, None))
 }
@@ -167,7 +175,7 @@ pub fn set_member(alloc: Global, base: &[u8], key: &[u8], value: Expr) -> Result
 {
     let base = Box::new(alloc, named(alloc, base)?)?;
     let key = Key::Dot(name(alloc, key)?);
-    Ok(Stmt::Value(Expr::SetMember(base, key, Box::new(alloc, value)?)))
+    evaluated(alloc, Expr::SetMember(base, key, Box::new(alloc, value)?))
 }
 
 /// A list with a statement more.

@@ -114,8 +114,8 @@ fn walk_exprs(alloc: Global, walk: &mut Walk, es: &Vec<Expr>) -> Result<(), NoMe
 
 /// An expression, where there is one.
 #[cycle(walk)]
-pub fn walk_maybe(alloc: Global, walk: &mut Walk, e: &Option<Expr>) -> Result<(), NoMemory>
-    ensures { OnOk result (state walk.new ≡ maybe_walk (maybe_expr (option_map expr_view e.now)) (state walk.old)) }
+pub fn walk_maybe(alloc: Global, walk: &mut Walk, e: &Option<Box<Expr>>) -> Result<(), NoMemory>
+    ensures { OnOk result (state walk.new ≡ maybe_walk (maybe_expr (option_map (λ b. expr_view b.value) e.now)) (state walk.old)) }
 {
     match e {
         None => Ok(()),

@@ -4,7 +4,6 @@ ghost use Rattle.std.specs.Prelude.{◌≡◌, [], IfOk, OnOk};
 ghost use Rattle.actx_data.specs.declared.end.End.TheVariants.{Going, Left};
 ghost use Rattle.actx_grammar.specs.Tree.{next, end, Return};
 ghost use Rattle.std.specs.Prelude.{option_map, slice_set};
-ghost use Rattle.std.specs.Option.{option_copied};
 ghost use Rattle.actx_ast.specs.View.{expr_view, stmt_view, stmts_view, consts_view, maybe_expr};
 ghost use Rattle.actx_target.specs.Chains.{chain_of};
 ghost use Rattle.actx_rules.specs.State.{set_in, set_cell, cells_at, with_items, with_names};
@@ -103,9 +102,9 @@ impl<'a> Target<'a> {
     }
 
     /// A return, of `undefined` where it has no expression.
-    fn exec_return(&mut self, value: Option<&'a Expr>) -> Result<(), NoMemory>
+    fn exec_return(&mut self, value: &'a Option<Box<Expr>>) -> Result<(), NoMemory>
         requires { self.old.end ≡ End.Going }
-        ensures { OnOk result (state_of self.new ≡ takes (exec (Return (maybe_expr (option_map expr_view (option_copied value.entry)))) (frames_in self.old) (store_in self.old)) self.old.trace.items) }
+        ensures { OnOk result (state_of self.new ≡ takes (exec (Return (maybe_expr (option_map (λ b. expr_view b.value) value.now))) (frames_in self.old) (store_in self.old)) self.old.trace.items) }
     {
         match value {
             None => self.task = Task::Done(Completion::Return(Sound::undefined())),
@@ -129,7 +128,7 @@ impl<'a> Target<'a> {
                 self.task = Task::Eval(e);
                 Ok(())
             }
-            Stmt::Return(value) => self.exec_return(value.as_ref()),
+            Stmt::Return(value) => self.exec_return(value),
             Stmt::Block(list) => self.exec_list(list),
             Stmt::If(test, branch, other) => {
                 self.frames.push(Frame::If(branch, other))?;

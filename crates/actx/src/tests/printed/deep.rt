@@ -32,7 +32,7 @@ fn functions(alloc: Global) -> Result<Expr, NoMemory> {
             name: None,
             kind: FunctionKind::Arrow,
             params: Vec::new(alloc),
-            body: one(alloc, Stmt::Return(Some(e)))?,
+            body: one(alloc, Stmt::Return(Some(Box::new(alloc, e)?)))?,
         };
         e = Expr::Function(Box::new(alloc, f)?);
     }

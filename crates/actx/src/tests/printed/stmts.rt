@@ -14,7 +14,7 @@ fn lets(alloc: Global) -> Result<Vec<LetItem>, NoMemory> {
     })?;
     items.push(LetItem {
         name: name(alloc, "b")?,
-        value: Some(Expr::Num(1)),
+        value: Some(Box::new(alloc, Expr::Num(1))?),
     })?;
     Ok(items)
 }
@@ -55,13 +55,13 @@ fn declarations(rt: HostRuntime) -> Result<(), Fail> {
 #[test]
 fn branches(rt: HostRuntime) -> Result<(), Fail> {
     let alloc = rt.alloc();
-    let stmt = Stmt::If(Expr::This, empty(alloc)?, None);
+    let stmt = Stmt::If(Box::new(alloc, Expr::This)?, empty(alloc)?, None);
     assert_eq!(rt;
         text(alloc, stmt)?.as_slice(),
         b"if ( this ) ;\n".as_slice()
     );
     let other = Box::new(alloc, Stmt::Block(Vec::new(alloc)))?;
-    let stmt = Stmt::If(Expr::This, empty(alloc)?, Some(other));
+    let stmt = Stmt::If(Box::new(alloc, Expr::This)?, empty(alloc)?, Some(other));
     assert_eq!(rt;
         text(alloc, stmt)?.as_slice(),
         b"if ( this ) ;\nelse {\n}\n".as_slice()
@@ -72,12 +72,12 @@ fn branches(rt: HostRuntime) -> Result<(), Fail> {
 #[test]
 fn loops(rt: HostRuntime) -> Result<(), Fail> {
     let alloc = rt.alloc();
-    let stmt = Stmt::While(Expr::This, Box::new(alloc, Stmt::Break)?);
+    let stmt = Stmt::While(Box::new(alloc, Expr::This)?, Box::new(alloc, Stmt::Break)?);
     assert_eq!(rt;
         text(alloc, stmt)?.as_slice(),
         b"while ( this ) break ;\n".as_slice()
     );
-    let stmt = Stmt::DoWhile(Box::new(alloc, Stmt::Continue)?, Expr::This);
+    let stmt = Stmt::DoWhile(Box::new(alloc, Stmt::Continue)?, Box::new(alloc, Expr::This)?);
     assert_eq!(rt;
         text(alloc, stmt)?.as_slice(),
         b"do continue ;\nwhile ( this ) ;\n".as_slice()
@@ -89,8 +89,8 @@ fn loops(rt: HostRuntime) -> Result<(), Fail> {
     );
     let stmt = Stmt::For(
         ForInit::Const(consts(alloc)?),
-        Some(Expr::Num(3)),
-        Some(Expr::Num(4)),
+        Some(Box::new(alloc, Expr::Num(3))?),
+        Some(Box::new(alloc, Expr::Num(4))?),
         empty(alloc)?,
     );
     assert_eq!(rt;
@@ -100,7 +100,7 @@ fn loops(rt: HostRuntime) -> Result<(), Fail> {
     let stmt = Stmt::ForOf {
         constant: true,
         name: name(alloc, "a")?,
-        over: named(alloc, "b")?,
+        over: Box::new(alloc, named(alloc, "b")?)?,
         body: empty(alloc)?,
     };
     assert_eq!(rt;
@@ -110,7 +110,7 @@ fn loops(rt: HostRuntime) -> Result<(), Fail> {
     let stmt = Stmt::ForAwait {
         constant: false,
         name: name(alloc, "a")?,
-        over: named(alloc, "b")?,
+        over: Box::new(alloc, named(alloc, "b")?)?,
         body: empty(alloc)?,
     };
     assert_eq!(rt;
@@ -127,12 +127,12 @@ fn ends(rt: HostRuntime) -> Result<(), Fail> {
         text(alloc, Stmt::Return(None))?.as_slice(),
         b"return ;\n".as_slice()
     );
-    let stmt = Stmt::Return(Some(Expr::This));
+    let stmt = Stmt::Return(Some(Box::new(alloc, Expr::This)?));
     assert_eq!(rt;
         text(alloc, stmt)?.as_slice(),
         b"return this ;\n".as_slice()
     );
-    let stmt = Stmt::Throw(Expr::This);
+    let stmt = Stmt::Throw(Box::new(alloc, Expr::This)?);
     assert_eq!(rt; text(alloc, stmt)?.as_slice(), b"throw this ;\n".as_slice());
     Ok(())
 }
@@ -181,7 +181,7 @@ fn clauses(rt: HostRuntime) -> Result<(), Fail> {
         number: None,
         body: Vec::new(alloc),
     })?;
-    let stmt = Stmt::Switch(Expr::This, rows);
+    let stmt = Stmt::Switch(Box::new(alloc, Expr::This)?, rows);
     assert_eq!(rt;
         text(alloc, stmt)?.as_slice(),
         b"switch ( this ) {\ncase 1 : break ;\ndefault : }\n".as_slice()

@@ -72,19 +72,19 @@ impl Make {
 
     /// `a;`
     pub fn uses(self, name: &str) -> Result<Stmt, NoMemory> {
-        Ok(Stmt::Value(Expr::Named(self.name(name)?)))
+        Ok(Stmt::Value(self.boxed(Expr::Named(self.name(name)?))?))
     }
 
     /// `a = null;`
     pub fn sets(self, name: &str) -> Result<Stmt, NoMemory> {
         let value = self.boxed(Expr::Null)?;
-        Ok(Stmt::Value(Expr::SetName(self.name(name)?, value)))
+        Ok(Stmt::Value(self.boxed(Expr::SetName(self.name(name)?, value))?))
     }
 
     /// `null.a;`
     pub fn member(self, name: &str) -> Result<Stmt, NoMemory> {
         let base = self.boxed(Expr::Null)?;
-        Ok(Stmt::Value(Expr::Member(base, Key::Dot(self.name(name)?))))
+        Ok(Stmt::Value(self.boxed(Expr::Member(base, Key::Dot(self.name(name)?)))?))
     }
 
     /// `({ a: null });`, of an ASCII key
@@ -98,7 +98,7 @@ impl Make {
             key: PropKey::Fixed(Units::from_vec(units)),
             value: Expr::Null,
         })?;
-        Ok(Stmt::Value(Expr::Object(properties)))
+        Ok(Stmt::Value(self.boxed(Expr::Object(properties))?))
     }
 
     /// A function; a name without characters is none.
@@ -129,7 +129,7 @@ impl Make {
     /// A function expression as a statement.
     pub fn function_value(self, function: Function) -> Result<Stmt, NoMemory> {
         let function = Box::new(self.alloc, function)?;
-        Ok(Stmt::Value(Expr::Function(function)))
+        Ok(Stmt::Value(self.boxed(Expr::Function(function))?))
     }
 
     /// A function without a name round a statement, as a statement.
@@ -141,12 +141,12 @@ impl Make {
     /// `while (true) ..`
     pub fn loops(self, statement: Stmt) -> Result<Stmt, NoMemory> {
         let body = Box::new(self.alloc, statement)?;
-        Ok(Stmt::While(Expr::Truth(true), body))
+        Ok(Stmt::While(self.boxed(Expr::Truth(true))?, body))
     }
 
     /// `await null;`
     pub fn awaits(self) -> Result<Stmt, NoMemory> {
-        Ok(Stmt::Value(Expr::Await(self.boxed(Expr::Null)?)))
+        Ok(Stmt::Value(self.boxed(Expr::Await(self.boxed(Expr::Null)?))?))
     }
 
     /// `try {} catch (a) {..}`

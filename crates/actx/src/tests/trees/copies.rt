@@ -33,7 +33,7 @@ fn each_kind_is_copied(rt: HostRuntime) -> Result<(), Fail> {
     let alloc = rt.alloc();
     for kind in 0..20u32 {
         let e = wrap(alloc, kind, Expr::Num(7))?;
-        expect(&rt, alloc, Stmt::Value(e))?;
+        expect(&rt, alloc, Stmt::Value(Box::new(alloc, e)?))?;
     }
     for kind in 0..18u32 {
         let e = wrap(alloc, kind, Expr::Truth(true))?;
@@ -54,8 +54,8 @@ fn deep_trees_are_copied(rt: HostRuntime) -> Result<(), Fail> {
     let alloc = rt.alloc();
     let e = nest(alloc, 40000)?;
     let copy = e.copy(alloc)?;
-    let old = count(alloc, Stmt::Value(e))?;
-    assert_eq!(rt; count(alloc, Stmt::Value(copy))?, old);
+    let old = count(alloc, Stmt::Value(Box::new(alloc, e)?))?;
+    assert_eq!(rt; count(alloc, Stmt::Value(Box::new(alloc, copy)?))?, old);
     let stmt = nest_stmt(alloc, 40000)?;
     let copy = stmt.copy(alloc)?;
     let old = count(alloc, stmt)?;
@@ -87,7 +87,7 @@ fn boxed(alloc: Global) -> Result<Box<Expr>, NoMemory> {
 fn object(alloc: Global, property: Property) -> Result<Stmt, NoMemory> {
     let mut properties = Vec::new(alloc);
     properties.push(property)?;
-    Ok(Stmt::Value(Expr::Object(properties)))
+    Ok(Stmt::Value(Box::new(alloc, Expr::Object(properties))?))
 }
 
 #[test]
@@ -95,8 +95,8 @@ fn keys_are_copied(rt: HostRuntime) -> Result<(), Fail> {
     let alloc = rt.alloc();
     let key = Key::Index(boxed(alloc)?);
     let copy = Expr::Member(boxed(alloc)?, key.copy(alloc)?);
-    let old = printed(alloc, Stmt::Value(Expr::Member(boxed(alloc)?, key)))?;
-    assert_eq!(rt; printed(alloc, Stmt::Value(copy))?, old);
+    let old = printed(alloc, Stmt::Value(Box::new(alloc, Expr::Member(boxed(alloc)?, key))?))?;
+    assert_eq!(rt; printed(alloc, Stmt::Value(Box::new(alloc, copy)?))?, old);
     let property = Property {
         key: PropKey::Computed(boxed(alloc)?),
         value: Expr::Num(4),
@@ -145,7 +145,7 @@ fn functions_and_clauses_are_copied(rt: HostRuntime) -> Result<(), Fail> {
 fn switch(alloc: Global, clause: Clause) -> Result<Stmt, NoMemory> {
     let mut clauses = Vec::new(alloc);
     clauses.push(clause)?;
-    Ok(Stmt::Switch(Expr::This, clauses))
+    Ok(Stmt::Switch(Box::new(alloc, Expr::This)?, clauses))
 }
 
 fn caught(alloc: Global, catcher: Catcher) -> Stmt {
@@ -166,7 +166,7 @@ fn items_are_copied(rt: HostRuntime) -> Result<(), Fail> {
     let alloc = rt.alloc();
     let item = LetItem {
         name: Name::from_list(alloc, &['x'])?,
-        value: Some(Expr::Num(6)),
+        value: Some(Box::new(alloc, Expr::Num(6))?),
     };
     let mut items = Vec::new(alloc);
     items.push(item.copy(alloc)?)?;

@@ -24,7 +24,7 @@ fn unaries(alloc: Global, levels: u32) -> Result<Stmt, AllocError> {
     for _ in 0..levels {
         e = Expr::Unary(UnaryOp::Not, Box::new(alloc, e)?);
     }
-    Ok(Stmt::Value(e))
+    Ok(Stmt::Value(Box::new(alloc, e)?))
 }
 
 /// `{ { .. ; .. } }`
@@ -58,10 +58,10 @@ fn functions(alloc: Global, levels: u32) -> Result<Stmt, AllocError> {
 fn parentheses_are_a_level(rt: HostRuntime) -> Result<(), Fail> {
     let alloc = rt.alloc();
     let product = binary(alloc, BinaryOp::Mul, Expr::This)?;
-    assert_eq!(rt; depth_of(alloc, Stmt::Value(product))?, 3);
+    assert_eq!(rt; depth_of(alloc, Stmt::Value(Box::new(alloc, product)?))?, 3);
     let sum = binary(alloc, BinaryOp::Add, Expr::This)?;
     let product = binary(alloc, BinaryOp::Mul, sum)?;
-    assert_eq!(rt; depth_of(alloc, Stmt::Value(product))?, 5);
+    assert_eq!(rt; depth_of(alloc, Stmt::Value(Box::new(alloc, product)?))?, 5);
     Ok(())
 }
 
@@ -84,7 +84,7 @@ fn deep_programs_are_measured(rt: HostRuntime) -> Result<(), Fail> {
     let stmt = functions(alloc, 40000)?;
     assert_eq!(rt; depth_of(alloc, stmt)?, 40001);
     let expr = nest(alloc, 40000)?;
-    assert!(rt; depth_of(alloc, Stmt::Value(expr))? > 40000);
+    assert!(rt; depth_of(alloc, Stmt::Value(Box::new(alloc, expr)?))? > 40000);
     let stmt = nest_stmt(alloc, 40000)?;
     assert!(rt; depth_of(alloc, stmt)? > 20000);
     Ok(())

@@ -36,7 +36,7 @@ fn expect_expr(
     source: bool,
     plain: bool,
 ) -> Result<(), AllocError> {
-    expect(rt, alloc, Stmt::Value(e), source, plain)
+    expect(rt, alloc, Stmt::Value(Box::new(alloc, e)?), source, plain)
 }
 
 fn named(alloc: Global, word: &[char]) -> Result<Expr, NoMemory> {
@@ -106,9 +106,9 @@ fn statements_of_the_sides(rt: HostRuntime) -> Result<(), Fail> {
 #[test]
 fn no_else_is_of_two_statements(rt: HostRuntime) -> Result<(), Fail> {
     let alloc = rt.alloc();
-    let open = Stmt::If(Expr::This, Box::new(alloc, Stmt::Empty)?, None);
+    let open = Stmt::If(Box::new(alloc, Expr::This)?, Box::new(alloc, Stmt::Empty)?, None);
     let other = Box::new(alloc, Stmt::Empty)?;
-    let hanging = Stmt::If(Expr::This, Box::new(alloc, open)?, Some(other));
+    let hanging = Stmt::If(Box::new(alloc, Expr::This)?, Box::new(alloc, open)?, Some(other));
     expect(&rt, alloc, hanging, false, false)?;
     Ok(())
 }
@@ -119,11 +119,11 @@ fn a_default_stands_last(rt: HostRuntime) -> Result<(), Fail> {
     let mut clauses = Vec::new(alloc);
     clauses.push(clause(alloc, Some(1)))?;
     clauses.push(clause(alloc, None))?;
-    expect(&rt, alloc, Stmt::Switch(Expr::This, clauses), false, true)?;
+    expect(&rt, alloc, Stmt::Switch(Box::new(alloc, Expr::This)?, clauses), false, true)?;
     let mut clauses = Vec::new(alloc);
     clauses.push(clause(alloc, None))?;
     clauses.push(clause(alloc, Some(1)))?;
-    expect(&rt, alloc, Stmt::Switch(Expr::This, clauses), false, false)?;
+    expect(&rt, alloc, Stmt::Switch(Box::new(alloc, Expr::This)?, clauses), false, false)?;
     Ok(())
 }
 
@@ -223,7 +223,7 @@ fn nest(alloc: Global, kind: u32, levels: u32) -> Result<Stmt, AllocError> {
     for _ in 0..levels {
         e = wrap(alloc, kind, e)?;
     }
-    Ok(Stmt::Value(e))
+    Ok(Stmt::Value(Box::new(alloc, e)?))
 }
 
 /// Statements of one kind in one another.

@@ -18,7 +18,7 @@ fn tokens(alloc: Global, stmt: Stmt) -> Result<Vec<TokenKind>, NoMemory> {
 fn a_statement_is_spelled(rt: HostRuntime) -> Result<(), Fail> {
     let alloc = rt.alloc();
     assert_eq!(rt; tokens(alloc, Stmt::Empty)?.len(), 1);
-    assert_eq!(rt; tokens(alloc, Stmt::Value(Expr::This))?.len(), 2);
+    assert_eq!(rt; tokens(alloc, Stmt::Value(Box::new(alloc, Expr::This)?))?.len(), 2);
     Ok(())
 }
 
@@ -34,7 +34,7 @@ fn no_statement_is_spelled_by_no_token(rt: HostRuntime) -> Result<(), Fail> {
 fn deep_programs_are_spelled(rt: HostRuntime) -> Result<(), Fail> {
     let alloc = rt.alloc();
     let expr = nest(alloc, 40000)?;
-    assert!(rt; tokens(alloc, Stmt::Value(expr))?.len() > 40000);
+    assert!(rt; tokens(alloc, Stmt::Value(Box::new(alloc, expr)?))?.len() > 40000);
     let stmt = nest_stmt(alloc, 40000)?;
     assert!(rt; tokens(alloc, stmt)?.len() > 40000);
     Ok(())

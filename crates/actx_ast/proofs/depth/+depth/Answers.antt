@@ -38,8 +38,8 @@ expr_depth-returns-in-Form t c =
 pub statement_depth-returns-in-For : goal.statement_depth-returns-in-For
 statement_depth-returns-in-For t c =
     let init = init_view c.in-For.init in
-    let test = maybe_expr (option_map expr_view c.in-For.test) in
-    let update = maybe_expr (option_map expr_view c.in-For.update) in
+    let test = maybe_expr (option_map (λ b. expr_view b.value) c.in-For.test) in
+    let update = maybe_expr (option_map (λ b. expr_view b.value) c.in-For.update) in
     let body = stmt_view c.in-For.body.value in
     let seen : stmt_view c.args.stmt.now ≡ tree.For init test update body = search (rules, the_lemmas) in
     let inner : c.statement_depth-in-For.result ≡ min (spec.depth_stmt body) 4294967295 = c.statement_depth-in-For.ensures ∙ ap (λ st. min (spec.depth_stmt (stmt_view st)) 4294967295) c.deref-in-For.ensures in

@@ -90,7 +90,7 @@ pub(super) fn see_function<'a>(work: &mut Vec<Work<'a>>, f: &'a Function) -> Res
 
 pub(super) fn see_init<'a>(work: &mut Vec<Work<'a>>, init: &'a ForInit) -> Result<(), NoMemory>
     ensures seen { OnOk result (waiting work.new.items ≡ init_onto (init_view init.now) (waiting work.old.items)) }
-    ensures weight { OnOk result (work_weigh work.new.items ≤ work_weigh work.old.items + 1 + 4 * init_work init.now) }
+    ensures weight { OnOk result (work_weigh work.new.items ≤ work_weigh work.old.items + 4 * init_work init.now) }
 {
     match init {
         ForInit::Nothing => Ok(()),

@@ -12,7 +12,7 @@ use actx_data::NoMemory;
 
 pub(super) fn see_stmt<'a>(work: &mut Vec<Work<'a>>, st: &'a Stmt) -> Result<(), NoMemory>
     ensures seen { OnOk result (waiting work.new.items ≡ stmt_onto (stmt_view st.now) (waiting work.old.items)) }
-    ensures weight { OnOk result (work_weigh work.new.items ≤ work_weigh work.old.items + 2 + 4 * stmt_work st.now) }
+    ensures weight { OnOk result (work_weigh work.new.items ≤ work_weigh work.old.items + 4 * stmt_work st.now) }
 {
     match st {
         Stmt::Let(items) => push(work, Work::Lets(items)),
@@ -68,9 +68,12 @@ pub(super) fn see_stmt<'a>(work: &mut Vec<Work<'a>>, st: &'a Stmt) -> Result<(),
     }
 }
 
-pub(super) fn see_maybe<'a>(work: &mut Vec<Work<'a>>, e: &'a Option<Expr>) -> Result<(), NoMemory>
-    ensures seen { OnOk result (waiting work.new.items ≡ maybe_onto (maybe_expr (option_map expr_view e.now)) (waiting work.old.items)) }
-    ensures weight { OnOk result (work_weigh work.new.items ≤ work_weigh work.old.items + 1 + 4 * maybe_work (option_map expr_work e.now)) }
+pub(super) fn see_maybe<'a>(
+    work: &mut Vec<Work<'a>>,
+    e: &'a Option<Box<Expr>>,
+) -> Result<(), NoMemory>
+    ensures seen { OnOk result (waiting work.new.items ≡ maybe_onto (maybe_expr (option_map (λ b. expr_view b.value) e.now)) (waiting work.old.items)) }
+    ensures weight { OnOk result (work_weigh work.new.items ≤ work_weigh work.old.items + 4 * boxed_work (option_map (λ b. expr_work b.value) e.now)) }
 {
     match e {
         Some(x) => push(work, Work::Expr(x)),

@@ -2,7 +2,7 @@
 
 ghost use Rattle.std.specs.Prelude.{◌≡◌, ◌≤◌, ◌<◌, ◌+◌, ℕ, IfSome, option_map};
 ghost use Rattle.std.specs.Vec.{vec_capacity, vec_len};
-ghost use Rattle.actx_ast.specs.Apart.{AllBelow, expr_work, function_work, init_work, key_work, maybe_work, property_work, weigh, weight};
+ghost use Rattle.actx_ast.specs.Apart.{AllBelow, boxed_work, expr_work, function_work, init_work, key_work, property_work, weigh, weight};
 ghost use Rattle.actx_ast.specs.declared.tree.Expr.{size-Expr};
 ghost use Rattle.actx_ast.specs.declared.tree.ForInit.{size-ForInit};
 ghost use Rattle.actx_ast.specs.declared.tree.Function.{size-Function};
@@ -40,7 +40,7 @@ impl Expr {
     #[tactic(auto, using(crate::proofs::Parts::AllBelow_none))]
     pub(in crate::tree) fn room(&self) -> Option<Vec<Part>>
         ensures below { (n : ℕ) → IfSome result (λ v. AllBelow n v.items) }
-        ensures room { IfSome result (λ v. 11 ≤ vec_capacity v) }
+        ensures room { IfSome result (λ v. 5 ≤ vec_capacity v) }
         ensures length { IfSome result (λ v. vec_len v ≡ 0) }
     {
         let alloc = self.allocator()?;
@@ -91,8 +91,7 @@ impl Expr {
             }
             Expr::Object(properties) => put(parts, Part::Properties(properties)),
             Expr::Function(f) => put(parts, Part::Function(f)),
-            Expr::Yield(Some(value)) => put(parts, Part::Expr(value)),
-            Expr::Yield(None) => {}
+            Expr::Yield(value) => put_maybe_expr(value, parts),
             Expr::YieldAll(value) => put(parts, Part::Expr(value)),
             Expr::Await(value) => put(parts, Part::Expr(value)),
             Expr::Form(_, items) => put(parts, Part::Exprs(items)),
@@ -165,30 +164,30 @@ impl Function {
 
 impl ForInit {
     pub(in crate::tree) fn open(self, parts: &mut Vec<Part>)
-        requires { vec_len parts.old + 3 ≤ vec_capacity parts.old }
+        requires { vec_len parts.old + 1 ≤ vec_capacity parts.old }
         ensures below { (n : ℕ) → size-ForInit self ≤ n → AllBelow n parts.old.items → AllBelow n parts.new.items }
         ensures weight { weigh parts.new.items ≤ weigh parts.old.items + init_work self }
-        ensures length { vec_len parts.new ≤ vec_len parts.old + 3 }
+        ensures length { vec_len parts.new ≤ vec_len parts.old + 1 }
         ensures capacity { vec_capacity parts.new ≡ vec_capacity parts.old }
     {
         match self {
             ForInit::Nothing => {}
             ForInit::Let(items) => put(parts, Part::Lets(items)),
             ForInit::Const(items) => put(parts, Part::Consts(items)),
-            ForInit::Value(e) => e.open(parts),
+            ForInit::Value(e) => put(parts, Part::Expr(e)),
         }
     }
 }
 
-pub(super) fn open_maybe(e: Option<Expr>, parts: &mut Vec<Part>)
-    requires { vec_len parts.old + 3 ≤ vec_capacity parts.old }
-    ensures below { (n : ℕ) → IfSome e (λ x. size-Expr x ≤ n) → AllBelow n parts.old.items → AllBelow n parts.new.items }
-    ensures weight { weigh parts.new.items ≤ weigh parts.old.items + maybe_work (option_map expr_work e) }
-    ensures length { vec_len parts.new ≤ vec_len parts.old + 3 }
+pub(super) fn put_maybe_expr(e: Option<Box<Expr>>, parts: &mut Vec<Part>)
+    requires { vec_len parts.old + 1 ≤ vec_capacity parts.old }
+    ensures below { (n : ℕ) → IfSome e (λ x. size-Expr x.value < n) → AllBelow n parts.old.items → AllBelow n parts.new.items }
+    ensures weight { weigh parts.new.items ≤ weigh parts.old.items + boxed_work (option_map (λ b. expr_work b.value) e) }
+    ensures length { vec_len parts.new ≤ vec_len parts.old + 1 }
     ensures capacity { vec_capacity parts.new ≡ vec_capacity parts.old }
 {
     match e {
-        Some(e) => e.open(parts),
+        Some(e) => put(parts, Part::Expr(e)),
         None => {}
     }
 }

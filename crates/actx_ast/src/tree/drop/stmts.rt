@@ -11,7 +11,7 @@ ghost use Rattle.actx_ast.specs.declared.tree.LetItem.{size-LetItem};
 ghost use Rattle.actx_ast.specs.declared.tree.Stmt.{size-Stmt};
 
 use super::super::{Catcher, Clause, ConstItem, Expr, LetItem, Stmt};
-use super::exprs::open_maybe;
+use super::exprs::put_maybe_expr;
 use super::{Part, ROOM, put};
 use std::alloc::Global;
 
@@ -30,7 +30,7 @@ impl Stmt {
             | Stmt::ForAwait { body, .. } => Some(*Box::allocator(body)),
             Stmt::Try { block, .. } => Some(*block.allocator()),
             Stmt::Switch(_, clauses) => Some(*clauses.allocator()),
-            Stmt::Return(Some(e)) | Stmt::Throw(e) | Stmt::Value(e) => e.allocator(),
+            Stmt::Return(Some(e)) | Stmt::Throw(e) | Stmt::Value(e) => Some(*Box::allocator(e)),
             Stmt::Return(None) | Stmt::Break | Stmt::Continue | Stmt::Empty => None,
         }
     }
@@ -39,7 +39,7 @@ impl Stmt {
     #[tactic(auto, using(crate::proofs::Parts::AllBelow_none))]
     pub(in crate::tree) fn room(&self) -> Option<Vec<Part>>
         ensures below { (n : ℕ) → IfSome result (λ v. AllBelow n v.items) }
-        ensures room { IfSome result (λ v. 11 ≤ vec_capacity v) }
+        ensures room { IfSome result (λ v. 5 ≤ vec_capacity v) }
         ensures length { IfSome result (λ v. vec_len v ≡ 0) }
     {
         let alloc = self.allocator()?;
@@ -48,10 +48,10 @@ impl Stmt {
 
     /// Destructures a statement, and keeps its parts.
     pub(in crate::tree) fn open(self, parts: &mut Vec<Part>)
-        requires { vec_len parts.old + 10 ≤ vec_capacity parts.old }
+        requires { vec_len parts.old + 4 ≤ vec_capacity parts.old }
         ensures below { (n : ℕ) → size-Stmt self ≤ n → AllBelow n parts.old.items → AllBelow n parts.new.items }
         ensures weight { weigh parts.new.items ≤ weigh parts.old.items + stmt_work self }
-        ensures length { vec_len parts.new ≤ vec_len parts.old + 10 }
+        ensures length { vec_len parts.new ≤ vec_len parts.old + 4 }
         ensures capacity { vec_capacity parts.new ≡ vec_capacity parts.old }
     {
         match self {
@@ -60,15 +60,15 @@ impl Stmt {
             Stmt::Fun(f) => f.open(parts),
             Stmt::Block(stmts) => put(parts, Part::Stmts(stmts)),
             Stmt::If(test, yes, no) => {
-                open_loop(test, yes, parts);
+                put_both(test, yes, parts);
                 put_maybe(no, parts);
             }
-            Stmt::While(test, body) => open_loop(test, body, parts),
-            Stmt::DoWhile(body, test) => open_loop(test, body, parts),
+            Stmt::While(test, body) => put_both(test, body, parts),
+            Stmt::DoWhile(body, test) => put_both(test, body, parts),
             Stmt::For(init, test, update, body) => {
                 init.open(parts);
-                open_maybe(test, parts);
-                open_maybe(update, parts);
+                put_maybe_expr(test, parts);
+                put_maybe_expr(update, parts);
                 put(parts, Part::Stmt(body));
             }
             Stmt::ForOf {
@@ -76,17 +76,17 @@ impl Stmt {
                 name: _,
                 over,
                 body,
-            } => open_loop(over, body, parts),
+            } => put_both(over, body, parts),
             Stmt::ForAwait {
                 constant: _,
                 name: _,
                 over,
                 body,
-            } => open_loop(over, body, parts),
+            } => put_both(over, body, parts),
             Stmt::Break => {}
             Stmt::Continue => {}
-            Stmt::Return(value) => open_maybe(value, parts),
-            Stmt::Throw(value) => value.open(parts),
+            Stmt::Return(value) => put_maybe_expr(value, parts),
+            Stmt::Throw(value) => put(parts, Part::Expr(value)),
             Stmt::Try {
                 block,
                 catcher,
@@ -96,24 +96,24 @@ impl Stmt {
                 open_catcher(catcher, parts);
                 open_last(last, parts);
             }
-            Stmt::Value(e) => e.open(parts),
+            Stmt::Value(e) => put(parts, Part::Expr(e)),
             Stmt::Empty => {}
             Stmt::Switch(e, clauses) => {
-                e.open(parts);
+                put(parts, Part::Expr(e));
                 put(parts, Part::Clauses(clauses));
             }
         }
     }
 }
 
-fn open_loop(test: Expr, body: Box<Stmt>, parts: &mut Vec<Part>)
-    requires { vec_len parts.old + 4 ≤ vec_capacity parts.old }
-    ensures below { (n : ℕ) → size-Expr test ≤ n → size-Stmt body.value < n → AllBelow n parts.old.items → AllBelow n parts.new.items }
-    ensures weight { weigh parts.new.items ≤ weigh parts.old.items + (1 + expr_work test + stmt_work body.value) }
-    ensures length { vec_len parts.new ≤ vec_len parts.old + 4 }
+fn put_both(test: Box<Expr>, body: Box<Stmt>, parts: &mut Vec<Part>)
+    requires { vec_len parts.old + 2 ≤ vec_capacity parts.old }
+    ensures below { (n : ℕ) → size-Expr test.value < n → size-Stmt body.value < n → AllBelow n parts.old.items → AllBelow n parts.new.items }
+    ensures weight { weigh parts.new.items ≤ weigh parts.old.items + (2 + expr_work test.value + stmt_work body.value) }
+    ensures length { vec_len parts.new ≡ vec_len parts.old + 2 }
     ensures capacity { vec_capacity parts.new ≡ vec_capacity parts.old }
 {
-    test.open(parts);
+    put(parts, Part::Expr(test));
     put(parts, Part::Stmt(body));
 }
 
@@ -155,14 +155,14 @@ fn open_last(last: Option<Vec<Stmt>>, parts: &mut Vec<Part>)
 
 impl LetItem {
     pub(super) fn open(self, parts: &mut Vec<Part>)
-        requires { vec_len parts.old + 3 ≤ vec_capacity parts.old }
+        requires { vec_len parts.old + 1 ≤ vec_capacity parts.old }
         ensures below { (n : ℕ) → size-LetItem self ≤ n → AllBelow n parts.old.items → AllBelow n parts.new.items }
         ensures weight { weigh parts.new.items ≤ weigh parts.old.items + let_work self }
-        ensures length { vec_len parts.new ≤ vec_len parts.old + 3 }
+        ensures length { vec_len parts.new ≤ vec_len parts.old + 1 }
         ensures capacity { vec_capacity parts.new ≡ vec_capacity parts.old }
     {
         let LetItem { name: _, value } = self;
-        open_maybe(value, parts);
+        put_maybe_expr(value, parts);
     }
 }
 

@@ -6,7 +6,7 @@ use Rattle.actx_steps.proofs.standing.settle_stmt.Given as goal
 
 abbrev pub invariant-loop-frame : goal.invariant-loop-frame
 invariant-loop-frame l =
-    settle_stmt (stmt_view l.initial.held.stmt) l.initial.held.reach (stack_view l.initial.stack) ≡ settle_stmt (stmt_view l.held.stmt) l.held.reach (stack_view l.stack)
+    settle_stmt (stmt_view l.initial.held.stmt.value) l.initial.held.reach (stack_view l.initial.stack) ≡ settle_stmt (stmt_view l.held.stmt.value) l.held.reach (stack_view l.stack)
 
 abbrev pub decreases-loop-frame : goal.decreases-loop-frame
 decreases-loop-frame l = length l.stack

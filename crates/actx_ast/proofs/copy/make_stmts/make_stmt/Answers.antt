@@ -1,4 +1,4 @@
-use Rattle.std.proofs.Common.{◌≡◌, List, ◌∷◌, map, rules, option_map}
+use Rattle.std.proofs.Common.{◌≡◌, List, ◌∷◌, map, rules, option_map, subst, sym}
 use Rattle.actx_ast.specs.declared.tree.Expr.{the_lemmas}
 use Rattle.actx_ast.specs.Copies.{Seen, a_stmt, catch_onto, init_onto, last_onto, maybe_onto, stmt_made, stmt_onto, with_catch, with_init, with_last, with_maybe}
 use Rattle.actx_grammar.specs.Tree.{Catch, For, Init, Last, MaybeExpr, Try}
@@ -10,10 +10,10 @@ pub returns-in_ok-update-in-For-clause-like : goal.returns-in_ok-update-in-For-c
 returns-in_ok-update-in-For-clause-like c =
     let i = init_view c.in-For.init in
     let i' = init_view c.in_ok-init-in-For.init in
-    let test = maybe_expr (option_map expr_view c.in-For.test) in
-    let test' = maybe_expr (option_map expr_view c.in_ok-test-in-For.test) in
-    let update = maybe_expr (option_map expr_view c.in-For.update) in
-    let update' = maybe_expr (option_map expr_view c.in_ok-update-in-For.update) in
+    let test = maybe_expr (option_map (λ b. expr_view b.value) c.in-For.test) in
+    let test' = maybe_expr (option_map (λ b. expr_view b.value) c.in_ok-test-in-For.test) in
+    let update = maybe_expr (option_map (λ b. expr_view b.value) c.in-For.update) in
+    let update' = maybe_expr (option_map (λ b. expr_view b.value) c.in_ok-update-in-For.update) in
     let body = stmt_view c.in-For.field-3.value in
     let body' = stmt_view c.in_ok-body-in-For.body.value in
     let seen : stmt_view c.args.st.now ≡ For i test update body = search (rules, the_lemmas) in
@@ -21,7 +21,7 @@ returns-in_ok-update-in-For-clause-like c =
     let like_test : (k : MaybeExpr → List Seen → List Seen) (s : List Seen) → with_maybe test k (maybe_onto test' s) ≡ k test' s = search (rules, the_lemmas) in
     let like_update : (k : MaybeExpr → List Seen → List Seen) (s : List Seen) → with_maybe update k (maybe_onto update' s) ≡ k update' s = search (rules, the_lemmas) in
     let whole : (s : List Seen) → stmt_made (stmt_view c.args.st.now) (stmt_onto (For i' test' update' body') s) ≡ a_stmt (For i' test' update' body') ∷ s = like_seen _ _ _ seen (for_like i i' test test' update update' body body' like_init like_test like_update) in
-    search (rules, the_lemmas, whole)
+    subst (λ z. (s : List Seen) → stmt_made (stmt_view c.args.st.now) (stmt_onto z s) ≡ a_stmt z ∷ s) (sym c.looped.ensures) whole
 
 pub returns-in_ok-last-in-Try-clause-like : goal.returns-in_ok-last-in-Try-clause-like
 returns-in_ok-last-in-Try-clause-like c =

@@ -10,5 +10,5 @@ pub returns-in-Some-clause-rest : goal.returns-in-Some-clause-rest
 returns-in-Some-clause-rest c =
     let rest = rest_of c.args.work.now.items in
     on_ok _ _ c.led.result
-    (λ e. e ∙ ap (λ o. spell_stmt (node.Return (maybe_expr (option_map expr_view o))) ++ rest) (sym c.in-Some.is))
+    (λ e. e ∙ ap (λ x. spell_stmt (node.Return (node.some_expr (expr_view x))) ++ rest) c.deref.ensures ∙ ap (λ o. spell_stmt (node.Return (maybe_expr (option_map (λ b. expr_view b.value) o))) ++ rest) (sym c.in-Some.is))
     c.led.ensures.rest

@@ -10,8 +10,8 @@ use Rattle.actx_ast.proofs.spell.stmts.statement.Goals as goal
 pub returns-in-For-clause-rest : goal.returns-in-For-clause-rest
 returns-in-For-clause-rest c =
     let init = init_view c.in-For.init in
-    let test = maybe_expr (option_map expr_view c.in-For.test) in
-    let update = maybe_expr (option_map expr_view c.in-For.update) in
+    let test = maybe_expr (option_map (λ b. expr_view b.value) c.in-For.test) in
+    let update = maybe_expr (option_map (λ b. expr_view b.value) c.in-For.update) in
     let whole : node.Stmt = node.For init test update (stmt_view c.in-For.body.value) in
     let seen : stmt_view c.args.stmt.now ≡ whole = search (rules, the_lemmas) in
     let rest = rest_of c.args.work.now.items in

@@ -15,8 +15,8 @@ on_same a r w work s t h e = subst (λ z. OnOk r (a ≡ acts work (stmt z w))) e
 pub returns-in-For-clause-walk : goal.returns-in-For-clause-walk
 returns-in-For-clause-walk c =
     let init = init_view c.in-For.init in
-    let test = maybe_expr (option_map expr_view c.in-For.test) in
-    let update = maybe_expr (option_map expr_view c.in-For.update) in
+    let test = maybe_expr (option_map (λ b. expr_view b.value) c.in-For.test) in
+    let update = maybe_expr (option_map (λ b. expr_view b.value) c.in-For.update) in
     let whole : stmt_view c.args.stmt.now ≡ node.For init test update (stmt_view c.in-For.body.value) = search (rules, the_lemmas) in
     let body : node.For init test update (stmt_view c.deref-in-For.result.now) ≡ node.For init test update (stmt_view c.in-For.body.value) = ap (λ st. node.For init test update (stmt_view st)) c.deref-in-For.ensures in
     let seen : node.For init test update (stmt_view c.deref-in-For.result.now) ≡ stmt_view c.args.stmt.now = body ∙ sym whole in
