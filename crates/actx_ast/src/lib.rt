@@ -1,4 +1,4 @@
-//! Names, tokens and trees of programs.
+//! Trees of programs: their copies, how deep they are, which side they are of, and how they are spelled.
 #![tactic(auto)]
 
 mod copy;

@@ -1,4 +1,7 @@
 //! Trees of programs.
+//!
+//! An expression or a statement that stands in another by itself is in a box: what is proved of a function that moves a value
+//! grows with all that the value holds outside of boxes and lists.
 
 mod drop;
 

@@ -1,4 +1,4 @@
-//! The top call and what it stands on: the step table, the emitted program and both runs.
+//! The top call: a program is read, emitted as plain ECMAScript and run, and what is shown of that.
 #![tactic(auto)]
 
 mod execute;
