@@ -39,7 +39,7 @@ bounds rules = limits_view rules.limits
 
 -- PARTS THAT MAY BE LEFT OUT
 abbrev pub maybe_expr_view : Option (Box Expr Global) → t.MaybeExpr
-maybe_expr_view e.value = maybe_expr (option_map (λ b. expr_view b.value) e)
+maybe_expr_view e = maybe_expr (option_map (λ b. expr_view b.value) e)
 
 abbrev pub catch_view : Option Catcher → t.Catch
 catch_view c = catch_of (option_map catcher_view c)
@@ -96,14 +96,14 @@ frame_view f.While = m.in_while
 frame_view (f.DoTest st n) = m.in_do_test (stmt_view st.value) n
 frame_view f.ForInit = m.in_for_init
 frame_view (f.ForTest i n) = m.in_for_test (init_view i) n
-frame_view (f.ForUpdate i e n) = m.in_for_update (init_view i) (maybe_expr_view e.value) n
+frame_view (f.ForUpdate i e n) = m.in_for_update (init_view i) (maybe_expr_view e) n
 frame_view (f.ForOver constant x) = m.in_for_over constant x
 frame_view f.Switch = m.in_switch
 frame_view (f.YesOf a) = m.yes_of (expr_view a.expr.value) a.reach
 frame_view (f.NoOf e st n) = m.no_of (expr_view e.value) (stmt_view st.value) n
 frame_view (f.WhileOf a) = m.while_of (expr_view a.expr.value) a.reach
 frame_view f.DoOf = m.do_of
-frame_view (f.ForBody i e u n) = m.for_body (init_view i) (maybe_expr_view e.value) (maybe_expr_view u) n
+frame_view (f.ForBody i e u n) = m.for_body (init_view i) (maybe_expr_view e) (maybe_expr_view u) n
 frame_view (f.ForOfBody constant x a) = m.for_of_body constant x (expr_view a.expr.value) a.reach
 frame_view (f.List owner ss n) = m.in_list (owner_view owner) (stmts_view ss.items) n
 
@@ -165,7 +165,7 @@ mode_view (d.DoEnd st e n) = m.do_end (stmt_view st.value) (expr_view e.value) n
 mode_view d.ForOpen = m.for_open
 mode_view d.ForNext = m.for_next
 mode_view (d.ForTest i n) = m.for_test (init_view i) n
-mode_view (d.ForUpdate i e n) = m.for_update (init_view i) (maybe_expr_view e.value) n
+mode_view (d.ForUpdate i e n) = m.for_update (init_view i) (maybe_expr_view e) n
 mode_view d.TryOpen = m.try_open
 mode_view (d.CatchNext ss n) = m.catch_next (stmts_view ss.items) n
 mode_view (d.CatchOpen ss n) = m.catch_open (stmts_view ss.items) n
