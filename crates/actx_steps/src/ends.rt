@@ -45,7 +45,7 @@ fn close_form_with(
     ensures { IfOk result (λ r. (s : List Held) → go_if (suits form (suc (count (exprs_view parts.items)))) (have (Built form (with_last (exprs_view parts.items) (expr_view last.value))) reach) s ≡ move_of r s) }
 {
     let parts = with_last(parts, last)?;
-    close_form(alloc, form, parts, reach)
+    Ok(close_form(alloc, form, parts, reach)?)
 }
 
 /// A closing parenthesis behind an expression on a frame.

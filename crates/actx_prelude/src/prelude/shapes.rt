@@ -4,7 +4,7 @@ ghost use Rattle.std.specs.Prelude.{◌≡◌, IfOk, [], ◌∷◌, ◌++◌, op
 ghost use Rattle.actx_grammar.specs.Grammar.{with_last};
 ghost use Rattle.actx_grammar.specs.Parser.{with_stmt};
 ghost use Rattle.actx_grammar.specs.Tree as t;
-ghost use Rattle.actx_ast.specs.View.{expr_view, exprs_view, maybe_stmt, properties_view, stmt_view, stmts_view};
+ghost use Rattle.actx_ast.specs.View.{expr_view, exprs_view, maybe_expr, maybe_stmt, properties_view, stmt_view, stmts_view};
 ghost use Rattle.actx_rules.specs.Prelude as spec;
 
 use actx_ast::tree::{ConstItem, Expr, Key, PropKey, Property, Stmt};
@@ -113,11 +113,18 @@ pub fn evaluated(alloc: Global, e: Expr) -> Result<Stmt, NoMemory>
     Ok(Stmt::Value(Box::new(alloc, e)?))
 }
 
+fn some(e: Box<Expr>) -> Option<Box<Expr>>
+    ensures { maybe_expr (option_map (λ b. expr_view b.value) result) ≡ t.some_expr (expr_view e.value) }
+{
+    Some(e)
+}
+
 /// `return e;`.
 pub fn returned(alloc: Global, e: Expr) -> Result<Stmt, NoMemory>
     ensures { IfOk result (λ s. stmt_view s ≡ spec.returns (expr_view e)) }
 {
-    Ok(Stmt::Return(Some(Box::new(alloc, e)?)))
+    let value = some(Box::new(alloc, e)?);
+    Ok(Stmt::Return(value))
 }
 
 /// A statement that is executed where a test holds, and one where it doesn't.

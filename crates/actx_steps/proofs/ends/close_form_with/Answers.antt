@@ -14,4 +14,4 @@ returns c = λ s.
     let e = expr_view c.args.last.value in
     ap (λ n. go_if (suits f n) (have (Built f (with_last es e)) c.args.reach) s) (sym (count_last es e))
     ∙ ap (λ z. go_if (suits f (count z)) (have (Built f z) c.args.reach) s) (sym c.in_ok-parts.ensures)
-    ∙ c.close_form.ensures s
+    ∙ c.in_ok-close_form.ensures s
