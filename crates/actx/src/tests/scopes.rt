@@ -120,7 +120,10 @@ fn statements_and_expressions_stand_where_they_belong(rt: HostRuntime) -> Result
         // () => { return; };
         (m.within(FunctionKind::Arrow, Stmt::Return(None))?, None),
         // this;
-        (Stmt::Value(m.boxed(Expr::This)?), Some(CheckFault::Misplaced(1))),
+        (
+            Stmt::Value(m.boxed(Expr::This)?),
+            Some(CheckFault::Misplaced(1)),
+        ),
         // () => { this; };
         (
             m.within(FunctionKind::Arrow, Stmt::Value(m.boxed(Expr::This)?))?,
@@ -136,12 +139,18 @@ fn statements_and_expressions_stand_where_they_belong(rt: HostRuntime) -> Result
         ),
         // () => { yield; };
         (
-            m.within(FunctionKind::Arrow, Stmt::Value(m.boxed(Expr::Yield(None))?))?,
+            m.within(
+                FunctionKind::Arrow,
+                Stmt::Value(m.boxed(Expr::Yield(None))?),
+            )?,
             Some(CheckFault::Misplaced(3)),
         ),
         // (function* () { yield; });
         (
-            m.within(FunctionKind::Generator, Stmt::Value(m.boxed(Expr::Yield(None))?))?,
+            m.within(
+                FunctionKind::Generator,
+                Stmt::Value(m.boxed(Expr::Yield(None))?),
+            )?,
             None,
         ),
         // await null;

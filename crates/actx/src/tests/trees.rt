@@ -134,11 +134,20 @@ pub fn wrap_stmt(alloc: Global, kind: u32, st: Stmt, e: Expr) -> Result<Stmt, Al
         2 => Ok(Stmt::If(Box::new(alloc, e)?, Box::new(alloc, st)?, None)),
         3 => {
             let yes = Box::new(alloc, Stmt::Let(lets(alloc, e)?))?;
-            Ok(Stmt::If(Box::new(alloc, Expr::This)?, yes, Some(Box::new(alloc, st)?)))
+            Ok(Stmt::If(
+                Box::new(alloc, Expr::This)?,
+                yes,
+                Some(Box::new(alloc, st)?),
+            ))
         }
         4 => Ok(Stmt::While(Box::new(alloc, e)?, Box::new(alloc, st)?)),
         5 => Ok(Stmt::DoWhile(Box::new(alloc, st)?, Box::new(alloc, e)?)),
-        6 => Ok(Stmt::For(ForInit::Nothing, Some(Box::new(alloc, e)?), None, Box::new(alloc, st)?)),
+        6 => Ok(Stmt::For(
+            ForInit::Nothing,
+            Some(Box::new(alloc, e)?),
+            None,
+            Box::new(alloc, st)?,
+        )),
         7 => Ok(Stmt::For(
             ForInit::Let(lets(alloc, e)?),
             None,
@@ -151,7 +160,12 @@ pub fn wrap_stmt(alloc: Global, kind: u32, st: Stmt, e: Expr) -> Result<Stmt, Al
             None,
             Box::new(alloc, st)?,
         )),
-        9 => Ok(Stmt::For(ForInit::Value(Box::new(alloc, e)?), None, None, Box::new(alloc, st)?)),
+        9 => Ok(Stmt::For(
+            ForInit::Value(Box::new(alloc, e)?),
+            None,
+            None,
+            Box::new(alloc, st)?,
+        )),
         10 => Ok(Stmt::ForOf {
             constant: true,
             name: named(alloc)?,

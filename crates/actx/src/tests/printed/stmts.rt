@@ -77,7 +77,10 @@ fn loops(rt: HostRuntime) -> Result<(), Fail> {
         text(alloc, stmt)?.as_slice(),
         b"while ( this ) break ;\n".as_slice()
     );
-    let stmt = Stmt::DoWhile(Box::new(alloc, Stmt::Continue)?, Box::new(alloc, Expr::This)?);
+    let stmt = Stmt::DoWhile(
+        Box::new(alloc, Stmt::Continue)?,
+        Box::new(alloc, Expr::This)?,
+    );
     assert_eq!(rt;
         text(alloc, stmt)?.as_slice(),
         b"do continue ;\nwhile ( this ) ;\n".as_slice()

@@ -95,7 +95,10 @@ fn keys_are_copied(rt: HostRuntime) -> Result<(), Fail> {
     let alloc = rt.alloc();
     let key = Key::Index(boxed(alloc)?);
     let copy = Expr::Member(boxed(alloc)?, key.copy(alloc)?);
-    let old = printed(alloc, Stmt::Value(Box::new(alloc, Expr::Member(boxed(alloc)?, key))?))?;
+    let old = printed(
+        alloc,
+        Stmt::Value(Box::new(alloc, Expr::Member(boxed(alloc)?, key))?),
+    )?;
     assert_eq!(rt; printed(alloc, Stmt::Value(Box::new(alloc, copy)?))?, old);
     let property = Property {
         key: PropKey::Computed(boxed(alloc)?),

@@ -106,9 +106,17 @@ fn statements_of_the_sides(rt: HostRuntime) -> Result<(), Fail> {
 #[test]
 fn no_else_is_of_two_statements(rt: HostRuntime) -> Result<(), Fail> {
     let alloc = rt.alloc();
-    let open = Stmt::If(Box::new(alloc, Expr::This)?, Box::new(alloc, Stmt::Empty)?, None);
+    let open = Stmt::If(
+        Box::new(alloc, Expr::This)?,
+        Box::new(alloc, Stmt::Empty)?,
+        None,
+    );
     let other = Box::new(alloc, Stmt::Empty)?;
-    let hanging = Stmt::If(Box::new(alloc, Expr::This)?, Box::new(alloc, open)?, Some(other));
+    let hanging = Stmt::If(
+        Box::new(alloc, Expr::This)?,
+        Box::new(alloc, open)?,
+        Some(other),
+    );
     expect(&rt, alloc, hanging, false, false)?;
     Ok(())
 }
@@ -119,11 +127,23 @@ fn a_default_stands_last(rt: HostRuntime) -> Result<(), Fail> {
     let mut clauses = Vec::new(alloc);
     clauses.push(clause(alloc, Some(1)))?;
     clauses.push(clause(alloc, None))?;
-    expect(&rt, alloc, Stmt::Switch(Box::new(alloc, Expr::This)?, clauses), false, true)?;
+    expect(
+        &rt,
+        alloc,
+        Stmt::Switch(Box::new(alloc, Expr::This)?, clauses),
+        false,
+        true,
+    )?;
     let mut clauses = Vec::new(alloc);
     clauses.push(clause(alloc, None))?;
     clauses.push(clause(alloc, Some(1)))?;
-    expect(&rt, alloc, Stmt::Switch(Box::new(alloc, Expr::This)?, clauses), false, false)?;
+    expect(
+        &rt,
+        alloc,
+        Stmt::Switch(Box::new(alloc, Expr::This)?, clauses),
+        false,
+        false,
+    )?;
     Ok(())
 }
 

@@ -18,7 +18,10 @@ fn tokens(alloc: Global, stmt: Stmt) -> Result<Vec<TokenKind>, NoMemory> {
 fn a_statement_is_spelled(rt: HostRuntime) -> Result<(), Fail> {
     let alloc = rt.alloc();
     assert_eq!(rt; tokens(alloc, Stmt::Empty)?.len(), 1);
-    assert_eq!(rt; tokens(alloc, Stmt::Value(Box::new(alloc, Expr::This)?))?.len(), 2);
+    assert_eq!(rt;
+        tokens(alloc, Stmt::Value(Box::new(alloc, Expr::This)?))?.len(),
+        2
+    );
     Ok(())
 }
 
