@@ -3,3 +3,5 @@ mod Drive
 mod Samples
 mod Both
 mod PreludeLaws
+mod Same
+pub mod Whole

@@ -1,5 +1,5 @@
 -- What the prelude's functions do: each law starts from the move of the call, under any frames.
-use Rattle.std.specs.Prelude.{◌≡◌, ℕ, Bool, suc, ◌*◌, ◌≤◌, true, false, nat_le, List, [], ◌∷◌, ◌++◌, length, Some, None, slice_get, slice_set, codes}
+use Rattle.std.specs.Prelude.{◌≡◌, ℕ, Bool, suc, ◌+◌, ◌*◌, ◌≤◌, true, false, nat_le, List, [], ◌∷◌, ◌++◌, length, Some, None, slice_get, slice_set, codes}
 use Rattle.actx_match.specs.Runs.{run}
 use Rattle.actx_data.specs.Number.{greatest}
 use Rattle.actx_data.specs.declared.end.End.TheVariants.{Left}
@@ -61,7 +61,7 @@ AreFixed (Listed ps ∷ things) = AreFixed things
 AreFixed (_ ∷ things) = ⊥
 
 -- RUN, ENTERED: the new mapping is in place, the function is about to be called; k is the scope of the call of run
-pub record Enters (R : Value → Value → Type 0) (r : Store) (self : Value) (ws : List Value) (gs : List Frame) (n : ℕ) (ms : List (ℕ × Value)) (value current : Value) (made : ℕ) : Type 0 where
+pub record Enters (R : Value → Value → Type 0) (r : Store) (self : Value) (ws : List Value) (gs : List Frame) (n : ℕ) (ms : List (ℕ × Value)) (value current : Value) (made before : ℕ) : Type 0 where
   pub cells : List (List Cell)
   pub nodes : List (Thing Code)
   pub fixed : AreFixed nodes
@@ -75,33 +75,33 @@ pub record Enters (R : Value → Value → Type 0) (r : Store) (self : Value) (w
   pub old : cell_of the_old own ≡ Some (fixed_cell the_old current)
   pub free : cell_of name_now own ≡ None
   pub leads : Leads (call_code plain (Some run_code) self ws gs r) (200 * suc (length ms)) (Call (first (rest ws)) v.Undefined (six (rest (rest ws)))) (running scope r.scope r.receiver gs)
-      (record r { scope = chain; receiver = self; scopes = r.scopes ++ cells; heap = slice_set (r.heap ++ nodes) 3 (now_record mapping made) }) []
+      (record r { scope = chain; receiver = self; scopes = r.scopes ++ cells; heap = slice_set (r.heap ++ nodes) (3 + before) (now_record mapping made) }) []
 
 -- RUN, LEFT by a value or a throw: the old mapping is in place again, in whatever store the function left
 pub data Comes : Task → Type 0 where
   comes_value : (a : Value) → Comes (Given a)
   comes_throw : (a : Value) → Comes (Done (Throw a))
 
-pub record Departs (r : Store) (task : Task) (k : ℕ) (c : List ℕ) (y : Value) (gs : List Frame) (old : Value) (made : ℕ) : Type 0 where
+pub record Departs (r : Store) (task : Task) (k : ℕ) (c : List ℕ) (y : Value) (gs : List Frame) (old : Value) (made before : ℕ) : Type 0 where
   pub cells : List (List Cell)
   pub count : ℕ
-  pub by : (tr : List TraceEvent) → run (step plain) (suc count) (at task (running k c y gs) r tr) ≡ at task gs (record r { scope = c; receiver = y; scopes = r.scopes ++ cells; heap = slice_set r.heap 3 (now_record old made) }) tr
+  pub by : (tr : List TraceEvent) → run (step plain) (suc count) (at task (running k c y gs) r tr) ≡ at task gs (record r { scope = c; receiver = y; scopes = r.scopes ++ cells; heap = slice_set r.heap (3 + before) (now_record old made) }) tr
   pub within : count ≤ 100
 
 -- A VARIABLE IS MADE: its methods, its name, and its state
-abbrev pub made_props : Value → List Prop
-made_props name = record { key = codes "get"; value = v.Thing 6 } ∷ record { key = codes "run"; value = v.Thing 7 } ∷ record { key = codes "name"; value = name } ∷ []
+abbrev pub made_props : ℕ → Value → List Prop
+made_props before name = record { key = codes "get"; value = v.Thing (6 + before) } ∷ record { key = codes "run"; value = v.Thing (7 + before) } ∷ record { key = codes "name"; value = name } ∷ []
 
-abbrev pub made_heap : List (Thing Code) → Value → ℕ → Value → Value → List (Thing Code)
-made_heap heap current made name value = slice_set ((heap ++ Listed (made_props name) ∷ []) ++ state_record (suc made) value ∷ []) 3 (now_record current (suc made))
+abbrev pub made_heap : ℕ → List (Thing Code) → Value → ℕ → Value → Value → List (Thing Code)
+made_heap before heap current made name value = slice_set ((heap ++ Listed (made_props before name) ∷ []) ++ state_record (suc made) value ∷ []) (3 + before) (now_record current (suc made))
 
-abbrev pub made_weak : Store → List Entry → List Weak
-made_weak r entries = with_weak 2 (with_entry (length r.heap) (v.Thing (suc (length r.heap))) entries) r.weak
+abbrev pub made_weak : ℕ → Store → List Entry → List Weak
+made_weak before r entries = with_weak (2 + before) (with_entry (length r.heap) (v.Thing (suc (length r.heap))) entries) r.weak
 
-pub record Makes (r : Store) (ws : List Value) (gs : List Frame) (entries : List Entry) (current : Value) (made : ℕ) (name : List ℕ) (default : Value) : Type 0 where
+pub record Makes (r : Store) (ws : List Value) (gs : List Frame) (entries : List Entry) (current : Value) (made before : ℕ) (name : List ℕ) (default : Value) : Type 0 where
   pub cells : List (List Cell)
   pub leads : Leads (call_code plain (Some variable_code) v.Undefined ws gs r) 300 (Given (v.Thing (length r.heap))) gs
-      (record r { scopes = r.scopes ++ cells; heap = made_heap r.heap current made (v.Text name) default; weak = made_weak r entries }) []
+      (record r { scopes = r.scopes ++ cells; heap = made_heap before r.heap current made (v.Text name) default; weak = made_weak before r entries }) []
 
 -- the value of an option
 abbrev pub option_at : List ℕ → List Prop → Value
@@ -121,13 +121,13 @@ pub record Laws : Type 0 where
   -- and so is what can't be called
   pub run_refuses_callee : (r : Store) (self : Value) (ws : List Value) (gs : List Frame) (h : Ready r) (k n : ℕ) (e : Value) → entry_at self h.entries ≡ v.Thing k → slice_get r.heap k ≡ Some (state_record n e) → is_callable r (first (rest ws)) ≡ false → Refuses run_code r self ws gs
   pub gets : (r : Store) (self : Value) (ws : List Value) (gs : List Frame) (h : Ready r) (k n : ℕ) (e : Value) (ms : List (ℕ × Value)) → entry_at self h.entries ≡ v.Thing k → slice_get r.heap k ≡ Some (state_record n e) → MappingIs Equal r.heap ms h.current → Gets Equal r self ws gs n ms (option_or (mapped n ms) e)
-  pub enters : (r : Store) (self : Value) (ws : List Value) (gs : List Frame) (h : Ready r) (k n : ℕ) (e : Value) (ms : List (ℕ × Value)) → entry_at self h.entries ≡ v.Thing k → slice_get r.heap k ≡ Some (state_record n e) → is_callable r (first (rest ws)) ≡ true → MappingIs Equal r.heap ms h.current → Enters Equal r self ws gs n ms (first ws) h.current h.made
-  pub departs : (r : Store) (task : Task) (k : ℕ) (c : List ℕ) (y : Value) (gs : List Frame) (old : Value) (h : Ready r) (cells : List Cell) → Comes task → slice_get r.scopes k ≡ Some cells → cell_of the_old cells ≡ Some (fixed_cell the_old old) → cell_of name_now cells ≡ None → Departs r task k c y gs old h.made
+  pub enters : (r : Store) (self : Value) (ws : List Value) (gs : List Frame) (h : Ready r) (k n : ℕ) (e : Value) (ms : List (ℕ × Value)) → entry_at self h.entries ≡ v.Thing k → slice_get r.heap k ≡ Some (state_record n e) → is_callable r (first (rest ws)) ≡ true → MappingIs Equal r.heap ms h.current → Enters Equal r self ws gs n ms (first ws) h.current h.made h.before
+  pub departs : (r : Store) (task : Task) (k : ℕ) (c : List ℕ) (y : Value) (gs : List Frame) (old : Value) (h : Ready r) (cells : List Cell) → Comes task → slice_get r.scopes k ≡ Some cells → cell_of the_old cells ≡ Some (fixed_cell the_old old) → cell_of name_now cells ≡ None → Departs r task k c y gs old h.made h.before
   -- a variable without options
-  pub makes_alone : (r : Store) (ws : List Value) (gs : List Frame) (h : Ready r) → first ws ≡ v.Undefined → nat_le (suc h.made) greatest ≡ true → Makes r ws gs h.entries h.current h.made [] v.Undefined
+  pub makes_alone : (r : Store) (ws : List Value) (gs : List Frame) (h : Ready r) → first ws ≡ v.Undefined → nat_le (suc h.made) greatest ≡ true → Makes r ws gs h.entries h.current h.made h.before [] v.Undefined
   -- with an object of options that has no name, and one that has
-  pub makes_unnamed : (r : Store) (ws : List Value) (gs : List Frame) (h : Ready r) (j : ℕ) (qs : List Prop) → first ws ≡ v.Thing j → slice_get r.heap j ≡ Some (Plain qs) → option_at (codes "name") qs ≡ v.Undefined → nat_le (suc h.made) greatest ≡ true → Makes r ws gs h.entries h.current h.made [] (option_at (codes "defaultValue") qs)
-  pub makes_named : (r : Store) (ws : List Value) (gs : List Frame) (h : Ready r) (j : ℕ) (qs : List Prop) → first ws ≡ v.Thing j → slice_get r.heap j ≡ Some (Plain qs) → (u : List ℕ) → option_at (codes "name") qs ≡ v.Text u → nat_le (suc h.made) greatest ≡ true → Makes r ws gs h.entries h.current h.made u (option_at (codes "defaultValue") qs)
+  pub makes_unnamed : (r : Store) (ws : List Value) (gs : List Frame) (h : Ready r) (j : ℕ) (qs : List Prop) → first ws ≡ v.Thing j → slice_get r.heap j ≡ Some (Plain qs) → option_at (codes "name") qs ≡ v.Undefined → nat_le (suc h.made) greatest ≡ true → Makes r ws gs h.entries h.current h.made h.before [] (option_at (codes "defaultValue") qs)
+  pub makes_named : (r : Store) (ws : List Value) (gs : List Frame) (h : Ready r) (j : ℕ) (qs : List Prop) → first ws ≡ v.Thing j → slice_get r.heap j ≡ Some (Plain qs) → (u : List ℕ) → option_at (codes "name") qs ≡ v.Text u → nat_le (suc h.made) greatest ≡ true → Makes r ws gs h.entries h.current h.made h.before u (option_at (codes "defaultValue") qs)
   -- what is no object of options, a name that is no text, and one variable too many leave the profile
   pub null_quits : (r : Store) (ws : List Value) (gs : List Frame) → first ws ≡ v.Null → Quits (call_code plain (Some variable_code) v.Undefined ws gs r) 300
   pub unread_quits : (r : Store) (ws : List Value) (gs : List Frame) → same (first ws) v.Null ≡ false → same (first ws) v.Undefined ≡ false → get r.heap (first ws) (v.Text (codes "defaultValue")) ≡ g.Leaves → Quits (call_code plain (Some variable_code) v.Undefined ws gs r) 300

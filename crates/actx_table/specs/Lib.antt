@@ -14,3 +14,7 @@ pub mod Prelude
 pub mod Low
 pub mod PreludeState
 pub mod Laws
+pub mod Renamed
+pub mod Related
+pub mod Taken
+pub mod Weight

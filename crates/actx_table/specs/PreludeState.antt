@@ -1,6 +1,7 @@
--- What the prelude keeps in the heap, at these places: 0 and 1 the methods of WeakMaps, 2 the states, 3 the current mapping
--- and the count, and its functions from 4 on.
-use Rattle.std.specs.Prelude.{◌≡◌, ℕ, pos, List, [], ◌∷◌, Option, Some, slice_get}
+-- What the prelude keeps in the heap: at 0 and 1 stand the methods of WeakMaps, then the functions that the program's list
+-- declares, which are made when the list begins, and behind these n functions the states at 2 + n, the current mapping and
+-- the count at 3 + n, and the prelude's functions from 4 + n on.
+use Rattle.std.specs.Prelude.{◌≡◌, ℕ, ◌+◌, pos, List, [], ◌∷◌, Option, Some, slice_get}
 use Rattle.actx_data.specs.declared.value.Value.{Value}
 use Rattle.actx_data.specs.declared.value.Value.TheVariants as v
 use Rattle.actx_grammar.specs.declared.operators.FunctionKind.TheVariants.{Normal as normal_kind, Arrow as arrow_kind}
@@ -16,15 +17,15 @@ use Rattle.actx_table.specs.State.{Cell, Code, Closure, Native, WeakMapGet, Weak
 abbrev pub constant_at : List ℕ → ℕ → Option Cell
 constant_at x k = Some (fixed_cell x (v.Thing k))
 
-pub record IsBase (cells : List Cell) : Type 0 where
-  pub states : cell_of name_states cells ≡ constant_at name_states 2
-  pub now : cell_of name_now cells ≡ constant_at name_now 3
-  pub find : cell_of name_find cells ≡ constant_at name_find 4
-  pub with : cell_of name_with cells ≡ constant_at name_with 5
-  pub get : cell_of name_get cells ≡ constant_at name_get 6
-  pub run : cell_of name_run cells ≡ constant_at name_run 7
-  pub make : cell_of name_make cells ≡ constant_at name_make 8
-  pub variable : cell_of name_variable cells ≡ constant_at name_variable 9
+pub record IsBase (n : ℕ) (cells : List Cell) : Type 0 where
+  pub states : cell_of name_states cells ≡ constant_at name_states (2 + n)
+  pub now : cell_of name_now cells ≡ constant_at name_now (3 + n)
+  pub find : cell_of name_find cells ≡ constant_at name_find (4 + n)
+  pub with : cell_of name_with cells ≡ constant_at name_with (5 + n)
+  pub get : cell_of name_get cells ≡ constant_at name_get (6 + n)
+  pub run : cell_of name_run cells ≡ constant_at name_run (7 + n)
+  pub make : cell_of name_make cells ≡ constant_at name_make (8 + n)
+  pub variable : cell_of name_variable cells ≡ constant_at name_variable (9 + n)
 
 -- RECORDS
 -- the current mapping, and how many variables there are
@@ -69,20 +70,21 @@ running k back r gs = ReturnFrame ∷ ListFrame t.end (k ∷ 0 ∷ []) ∷ TryFr
 
 -- a store in which the prelude has run
 pub record Ready (r : Store) : Type 0 where
+  pub before : ℕ
   pub top : List Cell
   pub top_at : slice_get r.scopes 0 ≡ Some top
-  pub base : IsBase top
+  pub base : IsBase before top
   pub entries : List Entry
-  pub states_at : slice_get r.heap 2 ≡ Some (Listed weak_props)
-  pub entries_at : weak_at 2 r.weak ≡ Some entries
+  pub states_at : slice_get r.heap (2 + before) ≡ Some (Listed weak_props)
+  pub entries_at : weak_at (2 + before) r.weak ≡ Some entries
   pub current : Value
   pub made : ℕ
-  pub now_at : slice_get r.heap 3 ≡ Some (now_record current made)
+  pub now_at : slice_get r.heap (3 + before) ≡ Some (now_record current made)
   pub weak_get_at : slice_get r.heap 0 ≡ Some (Function (Native WeakMapGet))
   pub weak_set_at : slice_get r.heap 1 ≡ Some (Function (Native WeakMapSet))
-  pub find_at : slice_get r.heap 4 ≡ Some (Function find_code)
-  pub with_at : slice_get r.heap 5 ≡ Some (Function with_code)
-  pub make_at : slice_get r.heap 8 ≡ Some (Function make_code)
+  pub find_at : slice_get r.heap (4 + before) ≡ Some (Function find_code)
+  pub with_at : slice_get r.heap (5 + before) ≡ Some (Function with_code)
+  pub make_at : slice_get r.heap (8 + before) ≡ Some (Function make_code)
 
 -- THE STORE that the prelude leaves, before any program
 abbrev pub begun_cells : List Cell

@@ -138,14 +138,14 @@ abbrev pub with_call : Store → List ℕ → Value → List (List ℕ) → List
 with_call s scope receiver xs vs ss =
     record (with_made s (length s.scopes ∷ scope) (with_functions ss (length s.scopes ∷ scope) (record { heap = s.heap; cells = with_names ss (with_params xs vs []) }))) { receiver = receiver }
 
--- a new scope beside the current one, with the same cells (14.7.4.4 CreatePerIterationEnvironment)
-abbrev pub copy_in : Store → List ℕ → Store
-copy_in s [] = s
-copy_in s (k ∷ ks) = record s { scope = length s.scopes ∷ ks; scopes = s.scopes ++ cells_at s.scopes k ∷ [] }
+-- a new scope in the one round a loop, with the cells of the current one (14.7.4.4 CreatePerIterationEnvironment)
+abbrev pub copy_in : Store → List ℕ → List ℕ → Store
+copy_in s [] back = s
+copy_in s (k ∷ ks) back = record s { scope = length s.scopes ∷ back; scopes = s.scopes ++ cells_at s.scopes k ∷ [] }
 
-abbrev pub with_copy : Store → Bool → Store
-with_copy s true = copy_in s s.scope
-with_copy s false = s
+abbrev pub with_copy : Store → Bool → List ℕ → Store
+with_copy s true back = copy_in s s.scope back
+with_copy s false back = s
 
 -- LEAVING
 abbrev pub back_to : Store → List ℕ → Store

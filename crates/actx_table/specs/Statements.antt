@@ -187,12 +187,12 @@ turn_done Break e body fs s = Goes (Done Normal) fs s
 turn_done c e body fs s = Goes (Done c) fs s
 
 abbrev pub copy_done : Completion → Loop → List Frame → Store → Move
-copy_done Normal loop fs s = begin_test loop.test loop fs (with_copy s loop.copies)
+copy_done Normal loop fs s = begin_test loop.test loop fs (with_copy s loop.copies loop.back)
 copy_done c loop fs s = Goes (Done c) fs (back_to s loop.back)
 
 abbrev pub for_done : Completion → Loop → List Frame → Store → Move
-for_done Normal loop fs s = begin_update loop.update loop fs (with_copy s loop.copies)
-for_done Continue loop fs s = begin_update loop.update loop fs (with_copy s loop.copies)
+for_done Normal loop fs s = begin_update loop.update loop fs (with_copy s loop.copies loop.back)
+for_done Continue loop fs s = begin_update loop.update loop fs (with_copy s loop.copies loop.back)
 for_done Break loop fs s = Goes (Done Normal) fs (back_to s loop.back)
 for_done c loop fs s = Goes (Done c) fs (back_to s loop.back)
 

@@ -15,6 +15,7 @@ prelude_runs = refl
 begun_ready : Ready begun
 begun_ready =
     record {
+      before = 0;
       top = begun_cells;
       top_at = refl;
       base = record { states = refl; now = refl; find = refl; with = refl; get = refl; run = refl; make = refl; variable = refl };

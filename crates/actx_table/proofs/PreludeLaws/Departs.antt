@@ -10,7 +10,7 @@ use Rattle.actx_table.specs.Scopes.{cell_of}
 use Rattle.actx_table.specs.Laws.{Comes, Departs, comes_throw, comes_value}
 use Rattle.actx_table.specs.PreludeState.{Ready, running}
 
-pub departs_at : (r : Store) (task : Task) (k : ℕ) (c : List ℕ) (y : Value) (gs : List Frame) (old : Value) (h : Ready r) (cells : List Cell) → Comes task → slice_get r.scopes k ≡ Some cells → cell_of the_old cells ≡ Some (record { name = the_old; value = Some old; constant = true }) → cell_of name_now cells ≡ None → Departs r task k c y gs old h.made
+pub departs_at : (r : Store) (task : Task) (k : ℕ) (c : List ℕ) (y : Value) (gs : List Frame) (old : Value) (h : Ready r) (cells : List Cell) → Comes task → slice_get r.scopes k ≡ Some cells → cell_of the_old cells ≡ Some (record { name = the_old; value = Some old; constant = true }) → cell_of name_now cells ≡ None → Departs r task k c y gs old h.made h.before
 departs_at r task k c y gs old h cells (comes_value a) at_k is free =
     let b : slice_get (r.scopes ++ [] ∷ []) 0 ≡ Some h.top = get_front r.scopes ([] ∷ []) 0 _ h.top_at in
     let kk : slice_get (r.scopes ++ [] ∷ []) k ≡ Some cells = get_front r.scopes ([] ∷ []) k _ at_k in

@@ -27,13 +27,13 @@ abbrev run_call : Store → Value → List Value → List Frame → Move
 run_call r self ws gs = call_code plain (Some run_code) self ws gs r
 
 -- the frames and the store while the new mapping is made
-abbrev run_frames : Store → List Frame → List Frame
-run_frames r gs = Pending (Write (Some key_mapping)) (v.Thing 3 ∷ []) t.none ∷ ValueFrame ∷ ListFrame (t.next (t.Try run_block t.no_catch (t.last run_last)) t.end) (length r.scopes ∷ 0 ∷ []) ∷ CallFrame r.scope r.receiver ∷ gs
+abbrev run_frames : ℕ → Store → List Frame → List Frame
+run_frames p r gs = Pending (Write (Some key_mapping)) (v.Thing (3 + p) ∷ []) t.none ∷ ValueFrame ∷ ListFrame (t.next (t.Try run_block t.no_catch (t.last run_last)) t.end) (length r.scopes ∷ 0 ∷ []) ∷ CallFrame r.scope r.receiver ∷ gs
 
 abbrev run_store : Store → Value → List Value → ℕ → ℕ → Value → Store
 run_store r self ws k n old = record r { scope = length r.scopes ∷ 0 ∷ []; receiver = self; scopes = r.scopes ++ run_cells ws (Some (v.Thing k)) (Some (v.Num (pos n))) (Some old) ∷ [] }
 
-run_down : (r : Store) (self : Value) (ws : List Value) (gs : List Frame) (h : Ready r) (k n : ℕ) (e : Value) (tr : List TraceEvent) → entry_at self h.entries ≡ v.Thing k → slice_get r.heap k ≡ Some (state_record n e) → same_text (type_text r.heap (first (rest ws))) (codes "function") ≡ true → after_move (run_call r self ws gs) (drive 45) tr ≡ takes (with_call_of (run_store r self ws k n h.current) h.current n (first ws) (run_frames r gs)) tr
+run_down : (r : Store) (self : Value) (ws : List Value) (gs : List Frame) (h : Ready r) (k n : ℕ) (e : Value) (tr : List TraceEvent) → entry_at self h.entries ≡ v.Thing k → slice_get r.heap k ≡ Some (state_record n e) → same_text (type_text r.heap (first (rest ws))) (codes "function") ≡ true → after_move (run_call r self ws gs) (drive 45) tr ≡ takes (with_call_of (run_store r self ws k n h.current) h.current n (first ws) (run_frames h.before r gs)) tr
 run_down r self ws gs h k n e tr is g tf =
     let a = run_cells ws None None None in
     let a1 = run_cells ws (Some (v.Thing k)) None None in
@@ -55,28 +55,29 @@ run_down r self ws gs h k n e tr is g tf =
     simp (q, get_last {A = List Cell}, set_last {A = List Cell}, b, b1, bn, b2, states, now, with, w, en, m, nw, f, is, g, tf)
 
 -- from the new mapping to the call of the function
-run_up : (r : Store) (self : Value) (ws : List Value) (gs : List Frame) (k n made : ℕ) (old current mapping : Value) (more : List (List Cell)) (heap : List (Thing Code)) (tr : List TraceEvent) → slice_get heap 3 ≡ Some (now_record current made) → drive 23 (Given mapping) (run_frames r gs) (record (run_store r self ws k n old) { scopes = (r.scopes ++ run_cells ws (Some (v.Thing k)) (Some (v.Num (pos n))) (Some old) ∷ []) ++ more; heap = heap }) tr
+run_up : (p : ℕ) (r : Store) (self : Value) (ws : List Value) (gs : List Frame) (k n made : ℕ) (old current mapping : Value) (more : List (List Cell)) (heap : List (Thing Code)) (tr : List TraceEvent) → slice_get heap (3 + p) ≡ Some (now_record current made) → drive 23 (Given mapping) (run_frames p r gs) (record (run_store r self ws k n old) { scopes = (r.scopes ++ run_cells ws (Some (v.Thing k)) (Some (v.Num (pos n))) (Some old) ∷ []) ++ more; heap = heap }) tr
     ≡ at (Call (first (rest ws)) v.Undefined (six (rest (rest ws)))) (running (length r.scopes) r.scope r.receiver gs)
-    (record r { scope = length ((r.scopes ++ run_cells ws (Some (v.Thing k)) (Some (v.Num (pos n))) (Some old) ∷ []) ++ more) ∷ length r.scopes ∷ 0 ∷ []; receiver = self; scopes = ((r.scopes ++ run_cells ws (Some (v.Thing k)) (Some (v.Num (pos n))) (Some old) ∷ []) ++ more) ++ [] ∷ []; heap = slice_set heap 3 (now_record mapping made) }) tr
-run_up r self ws gs k n made old current mapping more heap tr nw =
+    (record r { scope = length ((r.scopes ++ run_cells ws (Some (v.Thing k)) (Some (v.Num (pos n))) (Some old) ∷ []) ++ more) ∷ length r.scopes ∷ 0 ∷ []; receiver = self; scopes = ((r.scopes ++ run_cells ws (Some (v.Thing k)) (Some (v.Num (pos n))) (Some old) ∷ []) ++ more) ++ [] ∷ []; heap = slice_set heap (3 + p) (now_record mapping made) }) tr
+run_up p r self ws gs k n made old current mapping more heap tr nw =
     let c = run_cells ws (Some (v.Thing k)) (Some (v.Num (pos n))) (Some old) in
     let s1 = (r.scopes ++ c ∷ []) ++ more in
     let has : slice_get (s1 ++ [] ∷ []) (length r.scopes) ≡ Some c = get_front s1 ([] ∷ []) (length r.scopes) _ (get_front (r.scopes ++ c ∷ []) more (length r.scopes) _ (get_last r.scopes c)) in
     simp (get_last {A = List Cell}, has, nw)
 
-pub enters_at : (R : Value → Value → Type 0) (r : Store) (self : Value) (ws : List Value) (gs : List Frame) (h : Ready r) (k n : ℕ) (a e : Value) (ms : List (ℕ × Value)) → entry_at self h.entries ≡ v.Thing k → slice_get r.heap k ≡ Some (state_record n e) → same_text (type_text r.heap (first (rest ws))) (codes "function") ≡ true → R a (first ws) → MappingIs R r.heap ms h.current → Enters R r self ws gs n ms a h.current h.made
+pub enters_at : (R : Value → Value → Type 0) (r : Store) (self : Value) (ws : List Value) (gs : List Frame) (h : Ready r) (k n : ℕ) (a e : Value) (ms : List (ℕ × Value)) → entry_at self h.entries ≡ v.Thing k → slice_get r.heap k ≡ Some (state_record n e) → same_text (type_text r.heap (first (rest ws))) (codes "function") ≡ true → R a (first ws) → MappingIs R r.heap ms h.current → Enters R r self ws gs n ms a h.current h.made h.before
 enters_at R r self ws gs h k n a e ms is g tf hv mi =
+    let p = h.before in
     let c = run_cells ws (Some (v.Thing k)) (Some (v.Num (pos n))) (Some h.current) in
     let b : slice_get (r.scopes ++ c ∷ []) 0 ≡ Some h.top = get_front r.scopes (c ∷ []) 0 _ h.top_at in
-    let ih = replace R r.heap (run_store r self ws k n h.current) h.top n a (first ws) (run_frames r gs) ms h.current refl b h.base h.with_at hv mi in
+    let ih = replace R r.heap (run_store r self ws k n h.current) h.top n a (first ws) (run_frames p r gs) ms h.current refl b h.base h.with_at hv mi in
     let within = ih.within in
     let heap1 = r.heap ++ ih.nodes in
     let s1 = (r.scopes ++ c ∷ []) ++ ih.cells in
     let s2 = r.scopes ++ (c ∷ (ih.cells ++ [] ∷ [])) in
     let whole : s1 ++ [] ∷ [] ≡ s2 = simp append_assoc in
     let has : slice_get (s1 ++ [] ∷ []) (length r.scopes) ≡ Some c = get_front s1 ([] ∷ []) (length r.scopes) _ (get_front (r.scopes ++ c ∷ []) ih.cells (length r.scopes) _ (get_last r.scopes c)) in
-    let nw : slice_get heap1 3 ≡ Some (now_record h.current h.made) = get_front r.heap ih.nodes 3 _ h.now_at in
-    let inner = takes (with_call_of (run_store r self ws k n h.current) h.current n (first ws) (run_frames r gs)) in
+    let nw : slice_get heap1 (3 + p) ≡ Some (now_record h.current h.made) = get_front r.heap ih.nodes (3 + p) _ h.now_at in
+    let inner = takes (with_call_of (run_store r self ws k n h.current) h.current n (first ws) (run_frames p r gs)) in
     let r1 = record (run_store r self ws k n h.current) { scopes = s1; heap = heap1 } in
     record {
       cells = c ∷ (ih.cells ++ [] ∷ []);
@@ -96,10 +97,10 @@ enters_at R r self ws gs h k n a e ms is g tf hv mi =
         by = λ tr.
             run_on (step plain) 45 (ih.count + 23) (takes (run_call r self ws gs) tr) (inner tr) _
             (sym (move_is 45 (run_call r self ws gs) tr (drive_is 45)) ∙ run_down r self ws gs h k n e tr is g tf)
-            (run_on (step plain) ih.count 23 (inner tr) (at (Given ih.value) (run_frames r gs) r1 tr) _ (ih.by tr)
-            (sym (drive_is 23 (Given ih.value) (run_frames r gs) r1 tr) ∙ (run_up r self ws gs k n h.made h.current h.current ih.value ih.cells heap1 tr nw
-            ∙ (ap (λ x. at (Call (first (rest ws)) v.Undefined (six (rest (rest ws)))) (running (length r.scopes) r.scope r.receiver gs) (record r { scope = length s1 ∷ length r.scopes ∷ 0 ∷ []; receiver = self; scopes = x; heap = slice_set heap1 3 (now_record ih.value h.made) }) tr) whole
-            ∙ ap (at (Call (first (rest ws)) v.Undefined (six (rest (rest ws)))) (running (length r.scopes) r.scope r.receiver gs) (record r { scope = length s1 ∷ length r.scopes ∷ 0 ∷ []; receiver = self; scopes = s2; heap = slice_set heap1 3 (now_record ih.value h.made) })) (sym (append_nil tr))))));
+            (run_on (step plain) ih.count 23 (inner tr) (at (Given ih.value) (run_frames p r gs) r1 tr) _ (ih.by tr)
+            (sym (drive_is 23 (Given ih.value) (run_frames p r gs) r1 tr) ∙ (run_up p r self ws gs k n h.made h.current h.current ih.value ih.cells heap1 tr nw
+            ∙ (ap (λ x. at (Call (first (rest ws)) v.Undefined (six (rest (rest ws)))) (running (length r.scopes) r.scope r.receiver gs) (record r { scope = length s1 ∷ length r.scopes ∷ 0 ∷ []; receiver = self; scopes = x; heap = slice_set heap1 (3 + p) (now_record ih.value h.made) }) tr) whole
+            ∙ ap (at (Call (first (rest ws)) v.Undefined (six (rest (rest ws)))) (running (length r.scopes) r.scope r.receiver gs) (record r { scope = length s1 ∷ length r.scopes ∷ 0 ∷ []; receiver = self; scopes = s2; heap = slice_set heap1 (3 + p) (now_record ih.value h.made) })) (sym (append_nil tr))))));
         within = omega (arith, within);
       };
     }

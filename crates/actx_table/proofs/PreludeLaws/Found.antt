@@ -71,7 +71,7 @@ find_none : (r : Store) (n : ℕ) (d : Value) (gs : List Frame) (tr : List Trace
 find_none r n d gs tr = simp (get_last {A = List Cell})
 
 -- to the call for the rest
-find_on : (r : Store) (n n0 k : ℕ) (top : List Cell) (d a rest : Value) (gs : List Frame) (tr : List TraceEvent) → slice_get r.heap k ≡ Some (entry_record n0 a rest) → int_eq (pos n0) (pos n) ≡ false → slice_get r.scopes 0 ≡ Some top → IsBase top → slice_get r.heap 4 ≡ Some (Function find_code) → after_move (find_call r (v.Thing k) n d gs) (drive 27) tr ≡ takes (find_call (find_store r (v.Thing k) n d) rest n d (find_frames r (v.Thing k) n d gs)) tr
+find_on : {p : ℕ} (r : Store) (n n0 k : ℕ) (top : List Cell) (d a rest : Value) (gs : List Frame) (tr : List TraceEvent) → slice_get r.heap k ≡ Some (entry_record n0 a rest) → int_eq (pos n0) (pos n) ≡ false → slice_get r.scopes 0 ≡ Some top → IsBase p top → slice_get r.heap (4 + p) ≡ Some (Function find_code) → after_move (find_call r (v.Thing k) n d gs) (drive 27) tr ≡ takes (find_call (find_store r (v.Thing k) n d) rest n d (find_frames r (v.Thing k) n d gs)) tr
 find_on r n n0 k top d a rest gs tr e q b base f =
     let c = find_cells (v.Thing k) n d in
     let s2 = (r.scopes ++ c ∷ []) ++ [] ∷ [] in
@@ -84,7 +84,7 @@ find_on r n n0 k top d a rest gs tr e q b base f =
 find_back : (r : Store) (n : ℕ) (m d a : Value) (gs : List Frame) (more : List (List Cell)) (tr : List TraceEvent) → run (step plain) 4 (at (Given a) (find_frames r m n d gs) (record (find_store r m n d) { scopes = ((r.scopes ++ find_cells m n d ∷ []) ++ [] ∷ []) ++ more }) tr) ≡ at (Given a) gs (record r { scopes = ((r.scopes ++ find_cells m n d ∷ []) ++ [] ∷ []) ++ more }) tr
 find_back r n m d a gs more tr = refl
 
-pub find : (R : Value → Value → Type 0) (heap : List (Thing Code)) (r : Store) (top : List Cell) (n : ℕ) (d e : Value) (gs : List Frame) (ms : List (ℕ × Value)) (m : Value) → r.heap ≡ heap → slice_get r.scopes 0 ≡ Some top → IsBase top → slice_get r.heap 4 ≡ Some (Function find_code) → R d e → MappingIs R heap ms m → Finds R r m n e gs (option_or (mapped n ms) d) (40 * suc (length ms))
+pub find : {p : ℕ} (R : Value → Value → Type 0) (heap : List (Thing Code)) (r : Store) (top : List Cell) (n : ℕ) (d e : Value) (gs : List Frame) (ms : List (ℕ × Value)) (m : Value) → r.heap ≡ heap → slice_get r.scopes 0 ≡ Some top → IsBase p top → slice_get r.heap (4 + p) ≡ Some (Function find_code) → R d e → MappingIs R heap ms m → Finds R r m n e gs (option_or (mapped n ms) d) (40 * suc (length ms))
 find R heap r top n d e gs ms m same b base f h no_mapping =
     record { value = e; is = h; cells = find_cells v.Undefined n e ∷ []; count = 10; within = omega arith; by = λ tr. sym (move_is 10 (find_call r v.Undefined n e gs) tr (drive_is 10)) ∙ find_none r n e gs tr }
 find R heap r top n d e gs _ _ same b base f h (more_mapping n0 k {a = a} {b = a'} {rest = rest} {ms = ms} hv e0 t) =

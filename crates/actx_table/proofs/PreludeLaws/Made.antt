@@ -35,9 +35,9 @@ make_call r name value gs = call_code plain (Some make_code) v.Undefined (name �
 abbrev pub make_cells : Value → Value → Option Value → Option Value → List Cell
 make_cells name value number variable = open_cell the_name name ∷ open_cell the_value value ∷ const_cell the_number number ∷ const_cell the_variable variable ∷ []
 
-pub make : (r : Store) (top : List Cell) (entries : List Entry) (current : Value) (made : ℕ) (name value : Value) (gs : List Frame) (tr : List TraceEvent) → slice_get r.scopes 0 ≡ Some top → IsBase top → slice_get r.heap 1 ≡ Some (Function (Native WeakMapSet)) → slice_get r.heap 2 ≡ Some (Listed weak_props) → weak_at 2 r.weak ≡ Some entries → slice_get r.heap 3 ≡ Some (now_record current made) → nat_le (suc made) greatest ≡ true
-    → after_move (make_call r name value gs) (drive 53) tr ≡ at (Given (v.Thing (length r.heap))) gs (record r { scopes = r.scopes ++ make_cells name value (Some (v.Num (pos (suc made)))) (Some (v.Thing (length r.heap))) ∷ []; heap = made_heap r.heap current made name value; weak = made_weak r entries }) tr
-make r top entries current made name value gs tr b base m w en nw few =
+pub make : (p : ℕ) (r : Store) (top : List Cell) (entries : List Entry) (current : Value) (made : ℕ) (name value : Value) (gs : List Frame) (tr : List TraceEvent) → slice_get r.scopes 0 ≡ Some top → IsBase p top → slice_get r.heap 1 ≡ Some (Function (Native WeakMapSet)) → slice_get r.heap (2 + p) ≡ Some (Listed weak_props) → weak_at (2 + p) r.weak ≡ Some entries → slice_get r.heap (3 + p) ≡ Some (now_record current made) → nat_le (suc made) greatest ≡ true
+    → after_move (make_call r name value gs) (drive 53) tr ≡ at (Given (v.Thing (length r.heap))) gs (record r { scopes = r.scopes ++ make_cells name value (Some (v.Num (pos (suc made)))) (Some (v.Thing (length r.heap))) ∷ []; heap = made_heap p r.heap current made name value; weak = made_weak p r entries }) tr
+make p r top entries current made name value gs tr b base m w en nw few =
     let n = Some (v.Num (pos (suc made))) in
     let c0 = make_cells name value None None in
     let c1 = make_cells name value n None in
@@ -45,17 +45,17 @@ make r top entries current made name value gs tr b base m w en nw few =
     let b0 : slice_get (r.scopes ++ c0 ∷ []) 0 ≡ Some top = get_front r.scopes (c0 ∷ []) 0 _ b in
     let b1 : slice_get (r.scopes ++ c1 ∷ []) 0 ≡ Some top = get_front r.scopes (c1 ∷ []) 0 _ b in
     let b2 : slice_get (r.scopes ++ c2 ∷ []) 0 ≡ Some top = get_front r.scopes (c2 ∷ []) 0 _ b in
-    let thing = Listed (made_props name) in
+    let thing = Listed (made_props p name) in
     let now' = now_record current (suc made) in
     let h1 = r.heap ++ thing ∷ [] in
-    let h2 = slice_set h1 3 now' in
+    let h2 = slice_set h1 (3 + p) now' in
     let st = state_record (suc made) value in
-    let l2 : length h2 ≡ suc (length r.heap) = omega (arith, length-set h1 3 now', length-append r.heap (thing ∷ [])) in
-    let nw1 : slice_get h1 3 ≡ Some (now_record current made) = get_front r.heap (thing ∷ []) 3 _ nw in
-    let w2 : slice_get h2 2 ≡ Some (Listed weak_props) = get_set_other h1 3 2 now' (λ e. absurd (cc)) ∙ get_front r.heap (thing ∷ []) 2 _ w in
-    let m2 : slice_get h2 1 ≡ Some (Function (Native WeakMapSet)) = get_set_other h1 3 1 now' (λ e. absurd (cc)) ∙ get_front r.heap (thing ∷ []) 1 _ m in
+    let l2 : length h2 ≡ suc (length r.heap) = omega (arith, length-set h1 (3 + p) now', length-append r.heap (thing ∷ [])) in
+    let nw1 : slice_get h1 (3 + p) ≡ Some (now_record current made) = get_front r.heap (thing ∷ []) (3 + p) _ nw in
+    let w2 : slice_get h2 (2 + p) ≡ Some (Listed weak_props) = get_set_other h1 (3 + p) (2 + p) now' (λ e. absurd (omega (arith, e))) ∙ get_front r.heap (thing ∷ []) (2 + p) _ w in
+    let m2 : slice_get h2 1 ≡ Some (Function (Native WeakMapSet)) = get_set_other h1 (3 + p) 1 now' (λ e. absurd (omega (arith, e))) ∙ get_front r.heap (thing ∷ []) 1 _ m in
     let m3 : slice_get (h2 ++ st ∷ []) 1 ≡ Some (Function (Native WeakMapSet)) = get_front h2 (st ∷ []) 1 _ m2 in
-    let sets : slice_set (h1 ++ st ∷ []) 3 now' ≡ h2 ++ st ∷ [] = set_front h1 (st ∷ []) 3 _ now' nw1 in
+    let sets : slice_set (h1 ++ st ∷ []) (3 + p) now' ≡ h2 ++ st ∷ [] = set_front h1 (st ∷ []) (3 + p) _ now' nw1 in
     let loose = Plain (record { key = key_number; value = v.Num (pos (suc made)) } ∷ record { key = key_value; value = value } ∷ []) in
     let g3 : slice_get (h2 ++ loose ∷ []) (suc (length r.heap)) ≡ Some loose = ap (slice_get (h2 ++ loose ∷ [])) (sym l2) ∙ get_last h2 loose in
     let s3 : slice_set (h2 ++ loose ∷ []) (suc (length r.heap)) st ≡ h2 ++ st ∷ [] = ap (λ k. slice_set (h2 ++ loose ∷ []) k st) (sym l2) ∙ set_last h2 loose st in
@@ -66,9 +66,9 @@ make r top entries current made name value gs tr b base m w en nw few =
     let sum : sum_of (pos made) (pos 1) ≡ Some (pos (suc made)) = next_is made true few in
     simp (sets, sum, get_last {A = List Cell}, set_last {A = List Cell}, get_last {A = Thing Code}, set_last {A = Thing Code}, b0, b1, b2, states, now, get, run, nw, nw1, w2, m3, l2, g3, s3, en)
 
-pub make_quits : (r : Store) (top : List Cell) (current : Value) (made : ℕ) (name value : Value) (gs : List Frame) (tr : List TraceEvent) → slice_get r.scopes 0 ≡ Some top → IsBase top → slice_get r.heap 3 ≡ Some (now_record current made) → nat_le (suc made) greatest ≡ false
+pub make_quits : (p : ℕ) (r : Store) (top : List Cell) (current : Value) (made : ℕ) (name value : Value) (gs : List Frame) (tr : List TraceEvent) → slice_get r.scopes 0 ≡ Some top → IsBase p top → slice_get r.heap (3 + p) ≡ Some (now_record current made) → nat_le (suc made) greatest ≡ false
     → after_move (make_call r name value gs) (drive 9) tr ≡ stopped Left tr
-make_quits r top current made name value gs tr b base nw many =
+make_quits p r top current made name value gs tr b base nw many =
     let c0 = make_cells name value None None in
     let b0 : slice_get (r.scopes ++ c0 ∷ []) 0 ≡ Some top = get_front r.scopes (c0 ∷ []) 0 _ b in
     let now = base.now in

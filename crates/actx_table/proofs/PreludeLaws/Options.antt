@@ -51,10 +51,10 @@ module _ (r : Store) (gs : List Frame) (h : Ready r) (m : Move) (chain : List �
       → ((tr : List TraceEvent) → after_move m (drive before) tr ≡ takes (make_call (called r chain scopes) (v.Text u) value fs) tr)
       → ((x : Value) (s : Store) (tr : List TraceEvent) → run (step plain) after (at (Given x) fs (record s { scope = chain; receiver = v.Undefined }) tr) ≡ at (Given x) gs (record s { scope = r.scope; receiver = r.receiver }) tr)
       → before + (53 + after) ≤ 300
-      → Leads m 300 (Given (v.Thing (length r.heap))) gs (record r { scopes = r.scopes ++ cells; heap = made_heap r.heap h.current h.made (v.Text u) value; weak = made_weak r h.entries }) []
+      → Leads m 300 (Given (v.Thing (length r.heap))) gs (record r { scopes = r.scopes ++ cells; heap = made_heap h.before r.heap h.current h.made (v.Text u) value; weak = made_weak h.before r h.entries }) []
   made_by u cells after few same down up within =
-      let heap = made_heap r.heap h.current h.made (v.Text u) value in
-      let weak = made_weak r h.entries in
+      let heap = made_heap h.before r.heap h.current h.made (v.Text u) value in
+      let weak = made_weak h.before r h.entries in
       let x = v.Thing (length r.heap) in
       let sc = scopes ++ make_cells (v.Text u) value (Some (v.Num (pos (suc h.made)))) (Some x) ∷ [] in
       let call = make_call (called r chain scopes) (v.Text u) value fs in
@@ -64,7 +64,7 @@ module _ (r : Store) (gs : List Frame) (h : Ready r) (m : Move) (chain : List �
             run_on (step plain) before (53 + after) (takes m tr) (takes call tr) _
             (sym (move_is before m tr (drive_is before)) ∙ down tr)
             (run_on (step plain) 53 after (takes call tr) (at (Given x) fs (record r { scope = chain; receiver = v.Undefined; scopes = sc; heap = heap; weak = weak }) tr) _
-            (sym (move_is 53 call tr (drive_is 53)) ∙ make (called r chain scopes) h.top h.entries h.current h.made (v.Text u) value fs tr top_at h.base h.weak_set_at h.states_at h.entries_at h.now_at few)
+            (sym (move_is 53 call tr (drive_is 53)) ∙ make h.before (called r chain scopes) h.top h.entries h.current h.made (v.Text u) value fs tr top_at h.base h.weak_set_at h.states_at h.entries_at h.now_at few)
             (up x (record r { scopes = sc; heap = heap; weak = weak }) tr ∙ (ap (λ y. at (Given x) gs (record r { scopes = y; heap = heap; weak = weak }) tr) same ∙ ap (at (Given x) gs (record r { scopes = r.scopes ++ cells; heap = heap; weak = weak })) (sym (append_nil tr)))));
         within = within;
       }
@@ -80,7 +80,7 @@ module _ (r : Store) (gs : List Frame) (h : Ready r) (m : Move) (chain : List �
         by = λ tr.
             run_on (step plain) before 9 (takes m tr) (takes call tr) _
             (sym (move_is before m tr (drive_is before)) ∙ down tr)
-            (sym (move_is 9 call tr (drive_is 9)) ∙ make_quits (called r chain scopes) h.top h.current h.made name value fs tr top_at h.base h.now_at many);
+            (sym (move_is 9 call tr (drive_is 9)) ∙ make_quits h.before (called r chain scopes) h.top h.current h.made name value fs tr top_at h.base h.now_at many);
         within = within;
       }
 
@@ -118,7 +118,7 @@ alone_down r ws gs h tr e =
     let f = h.make_at in
     simp (q, e, get_last {A = List Cell}, own, b, make, f)
 
-pub makes_alone_at : (r : Store) (ws : List Value) (gs : List Frame) (h : Ready r) → first ws ≡ v.Undefined → nat_le (suc h.made) greatest ≡ true → Makes r ws gs h.entries h.current h.made [] v.Undefined
+pub makes_alone_at : (r : Store) (ws : List Value) (gs : List Frame) (h : Ready r) → first ws ≡ v.Undefined → nat_le (suc h.made) greatest ≡ true → Makes r ws gs h.entries h.current h.made h.before [] v.Undefined
 makes_alone_at r ws gs h e few =
     let c = variable_cells v.Undefined None None in
     record {
@@ -187,7 +187,7 @@ module _ (r : Store) (ws : List Value) (gs : List Frame) (h : Ready r) (j : ℕ)
       let f = h.make_at in
       simp (q, e, get_last {A = List Cell}, set_last {A = List Cell}, hp, d, n, nm, b, make, f)
 
-  pub makes_unnamed_at : option_at (codes "name") qs ≡ v.Undefined → nat_le (suc h.made) greatest ≡ true → Makes r ws gs h.entries h.current h.made [] (option_at (codes "defaultValue") qs)
+  pub makes_unnamed_at : option_at (codes "name") qs ≡ v.Undefined → nat_le (suc h.made) greatest ≡ true → Makes r ws gs h.entries h.current h.made h.before [] (option_at (codes "defaultValue") qs)
   makes_unnamed_at nm few =
       let c = option_cells j qs (Some v.Undefined) in
       let value = option_at (codes "defaultValue") qs in
@@ -201,7 +201,7 @@ module _ (r : Store) (ws : List Value) (gs : List Frame) (h : Ready r) (j : ℕ)
       let c = option_cells j qs (Some v.Undefined) in
       quits_by r gs h (variable_call r ws gs) (block_chain r.scopes c) (block_scopes r.scopes c) (block_frames r named_part gs) (option_at (codes "defaultValue") qs) (block_top r h c) 45 (v.Text []) many (λ tr. unnamed_down tr nm) (omega arith)
 
-  pub makes_named_at : (u : List ℕ) → option_at (codes "name") qs ≡ v.Text u → nat_le (suc h.made) greatest ≡ true → Makes r ws gs h.entries h.current h.made u (option_at (codes "defaultValue") qs)
+  pub makes_named_at : (u : List ℕ) → option_at (codes "name") qs ≡ v.Text u → nat_le (suc h.made) greatest ≡ true → Makes r ws gs h.entries h.current h.made h.before u (option_at (codes "defaultValue") qs)
   makes_named_at u nm few =
       let c = option_cells j qs (Some (v.Text u)) in
       let value = option_at (codes "defaultValue") qs in

@@ -76,7 +76,7 @@ with_here r n n0 k d a rest gs tr e q =
     simp (get_last {A = List Cell}, get_last {A = Thing Code}, set_last {A = Thing Code}, one, two, three, e, q)
 
 -- to the call for the rest
-with_on : (r : Store) (n n0 k : ℕ) (top : List Cell) (d a rest : Value) (gs : List Frame) (tr : List TraceEvent) → slice_get r.heap k ≡ Some (entry_record n0 a rest) → int_eq (pos n0) (pos n) ≡ false → slice_get r.scopes 0 ≡ Some top → IsBase top → slice_get r.heap 5 ≡ Some (Function with_code) → after_move (with_call_of r (v.Thing k) n d gs) (drive 37) tr ≡ takes (with_call_of (with_store r (v.Thing k) n d) rest n d (with_frames r n0 a gs)) tr
+with_on : {p : ℕ} (r : Store) (n n0 k : ℕ) (top : List Cell) (d a rest : Value) (gs : List Frame) (tr : List TraceEvent) → slice_get r.heap k ≡ Some (entry_record n0 a rest) → int_eq (pos n0) (pos n) ≡ false → slice_get r.scopes 0 ≡ Some top → IsBase p top → slice_get r.heap (5 + p) ≡ Some (Function with_code) → after_move (with_call_of r (v.Thing k) n d gs) (drive 37) tr ≡ takes (with_call_of (with_store r (v.Thing k) n d) rest n d (with_frames r n0 a gs)) tr
 with_on r n n0 k top d a rest gs tr e q b base f =
     let c = with_cells (v.Thing k) n d in
     let s2 = (r.scopes ++ c ∷ []) ++ [] ∷ [] in
@@ -89,7 +89,7 @@ with_on r n n0 k top d a rest gs tr e q b base f =
 with_back : (r : Store) (n n0 : ℕ) (m d a b : Value) (gs : List Frame) (more : List (List Cell)) (heap : List (Thing Code)) (tr : List TraceEvent) → drive 6 (Given b) (with_frames r n0 a gs) (record (with_store r m n d) { scopes = ((r.scopes ++ with_cells m n d ∷ []) ++ [] ∷ []) ++ more; heap = heap }) tr ≡ at (Given (v.Thing (length heap))) gs (record r { scopes = ((r.scopes ++ with_cells m n d ∷ []) ++ [] ∷ []) ++ more; heap = heap ++ entry_record n0 a b ∷ [] }) tr
 with_back r n n0 m d a b gs more heap tr = simp (get_last {A = Thing Code}, set_last {A = Thing Code})
 
-pub replace : (R : Value → Value → Type 0) (heap : List (Thing Code)) (r : Store) (top : List Cell) (n : ℕ) (a d : Value) (gs : List Frame) (ms : List (ℕ × Value)) (m : Value) → r.heap ≡ heap → slice_get r.scopes 0 ≡ Some top → IsBase top → slice_get r.heap 5 ≡ Some (Function with_code) → R a d → MappingIs R heap ms m → Withs R r m n d gs (with_mapped n a ms) (45 * suc (length ms))
+pub replace : {p : ℕ} (R : Value → Value → Type 0) (heap : List (Thing Code)) (r : Store) (top : List Cell) (n : ℕ) (a d : Value) (gs : List Frame) (ms : List (ℕ × Value)) (m : Value) → r.heap ≡ heap → slice_get r.scopes 0 ≡ Some top → IsBase p top → slice_get r.heap (5 + p) ≡ Some (Function with_code) → R a d → MappingIs R heap ms m → Withs R r m n d gs (with_mapped n a ms) (45 * suc (length ms))
 replace R heap r top n a d gs ms m same b base f h no_mapping =
     record {
       value = v.Thing (length r.heap);
