@@ -3,6 +3,7 @@
 mod cases;
 mod grammar;
 mod lines;
+mod nodes;
 mod pictures;
 mod plain_runs;
 mod printed;

@@ -1,0 +1,9 @@
+pub mod Counted
+pub mod Counts
+pub mod Grown
+pub mod Joined
+pub mod Lists
+pub mod Opened
+pub mod Parts
+pub mod Pieces
+pub mod Places
